@@ -14,7 +14,7 @@ use Rattle.std.proofs.lemmas.Fmt.{decimal_is_IsNumeral}
 use Rattle.std.proofs.lemmas.Str.{digit_value_digit}
 use Rattle.std.proofs.lemmas.Str.Parse.{digit_from_value}
 use Rattle.fleet_map.specs.Text.{number_of}
-use Rattle.fleet_lib.specs.Names.{AreNumbers, IsLast, IsLikeName, IsMissing, IsNoName, IsRun, chapter_name}
+use Rattle.fleet_lib.specs.Names.{AreNumbers, AreReadable, IsLast, IsLikeName, IsMissing, IsNoName, IsRun, chapter_name}
 
 -- ---- numerals
 
@@ -89,6 +89,18 @@ same_number : (n k : ℕ) → n < 2 ^ 32 → k < 2 ^ 32 → chapter_name n ≡ c
 same_number n k small small' is =
     let digits : decimal n ≡ decimal k = append_cancel_right (decimal n) (decimal k) (codes ".json") (append_cancel_left (codes "chapter-") (decimal n ++ codes ".json") (decimal k ++ codes ".json") is) in
     same_Some n k (sym (number_reads n (omega (arith, small))) ∙ (ap number_of digits ∙ number_reads k (omega (arith, small'))))
+
+-- ---- names that are read
+
+pub readable-none : AreReadable []
+readable-none name c like none = absurd (omega (arith, c.1))
+
+pub readable-more : (names : List (List ℕ)) (name : List ℕ) → AreReadable names → (IsLikeName name → IsNoName name → ⊥) → AreReadable (names ++ name ∷ [])
+readable-more names name are one other c like none = by (Contains-push_cases names name other c)
+  where
+    by : Contains names other ⊎ (name ≡ other) → ⊥
+    by (inl before) = are other before like none
+    by (inr same) = one (subst (λ (n : List ℕ). IsLikeName n) (sym same) like) (subst (λ (n : List ℕ). IsNoName n) (sym same) none)
 
 -- ---- numbers
 

@@ -1,5 +1,5 @@
 -- The names of the chapters in a folder.
-use Rattle.std.specs.Prelude.{⊤, ◌≡◌, ◌≢◌, ◌<◌, ◌≤◌, ◌+◌, ◌^◌, ℕ, List, [], ◌++◌, length, slice_index_or, codes, decimal}
+use Rattle.std.specs.Prelude.{⊤, ◌≡◌, ◌≢◌, ◌<◌, ◌≤◌, ◌+◌, ◌^◌, ℕ, List, [], ◌++◌, length, slice_index_or, take, codes, decimal}
 use Rattle.std.specs.List.{Contains}
 use Rattle.fleet_lib.specs.declared.names.Named.{Named}
 use Rattle.fleet_lib.specs.declared.names.Named.TheVariants as named
@@ -16,6 +16,10 @@ IsLikeName name = (middle : List ℕ) × (name ≡ codes "chapter-" ++ (middle +
 -- it is that of none
 abbrev pub IsNoName : List ℕ → Type 0
 IsNoName name = (n : ℕ) → n < 2 ^ 32 → name ≢ chapter_name n
+
+-- each name that begins and ends as that of a chapter is that of one
+abbrev pub AreReadable : List (List ℕ) → Type 0
+AreReadable names = (name : List ℕ) → Contains names name → IsLikeName name → IsNoName name → ⊥
 
 -- what a name says
 abbrev pub IsNamed : List ℕ → Named → Type 0
@@ -46,7 +50,14 @@ pub record IsMissing (names : List (List ℕ)) (number : ℕ) : Type 0 where
   pub earlier : (n : ℕ) × (n < number) × Contains names (chapter_name n)
   pub later : (n : ℕ) × (number < n) × Contains names (chapter_name n)
 
+-- the first name that begins and ends as that of a chapter, and is that of none
+pub record IsFirstUnreadable (names : List (List ℕ)) (at : ℕ) : Type 0 where
+  pub inside : at < length names
+  pub like : IsLikeName (slice_index_or names at [])
+  pub none : IsNoName (slice_index_or names at [])
+  pub before : AreReadable (take at names)
+
 abbrev pub IsNamesFault : List (List ℕ) → NamesFault → Type 0
-IsNamesFault names (fault.Unreadable at) = (at < length names) × IsLikeName (slice_index_or names at []) × IsNoName (slice_index_or names at [])
-IsNamesFault names (fault.Missing number) = IsMissing names number
+IsNamesFault names (fault.Unreadable at) = IsFirstUnreadable names at
+IsNamesFault names (fault.Missing number) = AreReadable names × IsMissing names number
 IsNamesFault names fault.NoMemory = ⊤

@@ -1,8 +1,8 @@
 //! The names of the chapters in a folder.
 
-ghost use Rattle.std.specs.Prelude.{◌≡◌, ◌≢◌, ◌<◌, ◌≤◌, ◌^◌, ℕ, [], IfOk, IfErr, MatchOption, decimal, map, nat_lt, string_bytes};
+ghost use Rattle.std.specs.Prelude.{◌≡◌, ◌≢◌, ◌<◌, ◌≤◌, ◌^◌, ℕ, [], OnOk, IfOk, IfErr, MatchOption, decimal, map, nat_lt, string_bytes};
 ghost use Rattle.std.specs.List.{All, Contains, list_any};
-ghost use Rattle.fleet_lib.specs.Names.{AreNumbers, IsLast, IsNamed, IsNamesFault, IsRun, chapter_name};
+ghost use Rattle.fleet_lib.specs.Names.{AreNumbers, AreReadable, IsLast, IsNamed, IsNamesFault, IsRun, chapter_name};
 
 use fleet_map::text::number_up_to;
 use std::alloc::{AllocError, Global};
@@ -75,6 +75,7 @@ fn said_by(alloc: Global, name: &str) -> Result<Named, AllocError>
 /// The numbers of the chapters that names name.
 fn numbers_in(alloc: Global, names: &[String]) -> Result<Vec<u32>, NamesFault>
     ensures ok { IfOk result (λ numbers. AreNumbers (map (λ s. string_bytes s) names.now) numbers.items) }
+    ensures readable { OnOk result (AreReadable (map (λ s. string_bytes s) names.now)) }
     ensures fault { IfErr result (IsNamesFault (map (λ s. string_bytes s) names.now)) }
 {
     let mut numbers = Vec::new(alloc);
@@ -131,6 +132,7 @@ fn has_less(numbers: &[u32], bound: u32) -> bool
 /// is not there although an earlier one and a later one are (the last of these). Out of memory may come at any point.
 pub fn last_chapter(alloc: Global, names: &[String]) -> Result<Option<u32>, NamesFault>
     ensures ok { IfOk result (λ last. MatchOption last ((n : ℕ) → n < 2 ^ 32 → Contains (map (λ s. string_bytes s) names.now) (chapter_name n) → ⊥) (IsLast (map (λ s. string_bytes s) names.now))) }
+    ensures readable { OnOk result (AreReadable (map (λ s. string_bytes s) names.now)) }
     ensures fault { IfErr result (IsNamesFault (map (λ s. string_bytes s) names.now)) }
 {
     let numbers = numbers_in(alloc, names)?;

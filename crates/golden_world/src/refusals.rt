@@ -12,7 +12,8 @@
 //! memory in any case (a tick, a next chapter, the judge, and all before the calls) was refused once at least. How
 //! often is not printed: no promise says it. Of a run, which makes no event again, it ends with `same` where each
 //! refused run named the event whose allocation it was: over the events before that one, with the same allocation
-//! refused, a run ends well, and over these and that one it names it again.
+//! refused, a run ends well, and over these and that one it names it again. The last line is `no more growths` where
+//! as many refusals were noted as the allocator counts allocations in a play that is refused none: none was left out.
 
 mod calls;
 mod case;

@@ -17,6 +17,11 @@ impl<B: Allocator> Refusing<B> {
             left: AtomicU64::new(before),
         }
     }
+
+    /// How many allocations there are before the one to refuse; less than 0, modulo 2^64, after that one.
+    pub fn left(&self) -> u64 {
+        self.left.load(Ordering::SeqCst)
+    }
 }
 
 impl<B: Allocator> Drop for Refusing<B> {

@@ -34,7 +34,7 @@ pub(crate) fn play<R: Alloc<A = Global> + Threads + Sync>(
     let alloc = rt.alloc();
     let stamped = Arc::new(alloc, AtomicU64::new(0))?;
     let heap = Refusing::after(alloc, before);
-    play_over(alloc, &(rt, &heap), row, last, &stamped)
+    play_over(alloc, &(rt, &heap), &heap, row, last, &stamped)
 }
 
 /// A counter of stamps, for the arrivals and for the farewells of a robot.
@@ -46,6 +46,7 @@ fn counters(stamped: &Arc<AtomicU64>) -> Result<(Arc<AtomicU64>, Arc<AtomicU64>)
 fn play_over<A: Allocator + Copy + Send + Sync, R: Alloc<A = A> + Threads + Sync>(
     alloc: Global,
     rt: &R,
+    heap: &Refusing<Global>,
     row: Row<'_, Call>,
     last: usize,
     stamped: &Arc<AtomicU64>,
@@ -69,7 +70,12 @@ fn play_over<A: Allocator + Copy + Send + Sync, R: Alloc<A = A> + Threads + Sync
             return Ok(Err(Stage::Lists));
         }
     }
-    let setting = Setting { alloc, rt, stamped };
+    let setting = Setting {
+        alloc,
+        rt,
+        heap,
+        stamped,
+    };
     play_hooked(&setting, row, last, hooks)
 }
 
@@ -124,14 +130,16 @@ fn count(stamped: &AtomicU64) -> u32
     0
 }
 
-/// Runs the events of a row's script, of which the allocation after `before` others is refused.
+/// Runs the events of a row's script, of which the allocation after `before` others is refused. The result is how it
+/// ended, and how many allocations are left before the one to refuse.
 pub(crate) fn run_row<R: Alloc<A = Global>>(
     rt: &R,
     row: Row<'_, Event>,
     before: u64,
-) -> Result<Result<Run, Stage>, AllocError> {
+) -> Result<(Result<Run, Stage>, u64), AllocError> {
     let heap = Refusing::after(rt.alloc(), before);
-    run_over(rt.alloc(), &(rt, &heap), row)
+    let ended = run_over(rt.alloc(), &(rt, &heap), row)?;
+    Ok((ended, heap.left()))
 }
 
 /// Runs the events of a row's script, all of whose memory is the runtime's.

@@ -9,7 +9,7 @@ use fleet_world::World;
 use std::alloc::{Alloc, AllocError, Allocator, Global};
 use std::sync::atomic::{AtomicU64, Ordering};
 use std::thread::Threads;
-use test_kit::Showing;
+use test_kit::{Refusing, Showing};
 
 /// A row as far as it was played.
 #[derive(Drop)]
@@ -22,16 +22,19 @@ pub(crate) struct Played {
     pub(crate) same: bool,
     /// Whether an allocation after the last call is refused.
     pub(crate) spent: bool,
+    /// How many allocations were left then before the one to refuse.
+    pub(crate) left: u64,
     /// The trace of the chapter at the end.
     pub(crate) chapter: String,
 }
 
-/// What a row is played with: memory for what is told of it, the runtime whose memory is refused, and how many stamps
-/// the row's closures made.
+/// What a row is played with: memory for what is told of it, the runtime whose memory is refused, what counts its
+/// allocations, and how many stamps the row's closures made.
 #[derive(Drop)]
 pub(crate) struct Setting<'a, R> {
     pub(crate) alloc: Global,
     pub(crate) rt: &'a R,
+    pub(crate) heap: &'a Refusing<Global>,
     pub(crate) stamped: &'a AtomicU64,
 }
 
@@ -89,6 +92,7 @@ pub(crate) fn play_calls<A: Allocator + Copy + Send + Sync, R: Alloc<A = A> + Th
     let mut answers = String::new(setting.alloc);
     let (refused, same) = make_calls(setting, world, calls, last, &mut answers)?;
     let spent = Vec::from_slice(setting.rt.alloc(), &[0u8]).is_err();
+    let left = setting.heap.left();
     let chapter = write_trace(setting.alloc, world.chapter())?;
     let held = held(setting.alloc, world)?;
     Ok(Played {
@@ -96,6 +100,7 @@ pub(crate) fn play_calls<A: Allocator + Copy + Send + Sync, R: Alloc<A = A> + Th
         refused,
         same,
         spent,
+        left,
         chapter,
     })
 }

@@ -5,7 +5,7 @@ use crate::refusals::closures::run_row;
 use crate::refusals::rounds::MANY;
 use crate::refusals::runs::Run;
 use crate::refusals::stage::{Stage, read};
-use crate::refusals::tally::{Sheet, Tally, tell_end};
+use crate::refusals::tally::{Sheet, tell_end};
 use fleet_world::Event;
 use std::alloc::{Alloc, AllocError, Global};
 use std::fmt::Write;
@@ -18,7 +18,7 @@ fn passes<R: Alloc<A = Global>>(
     row: Row<'_, Event>,
     growth: u64,
 ) -> Result<bool, AllocError> {
-    match run_row(rt, row, growth)? {
+    match run_row(rt, row, growth)?.0 {
         Ok(Run::Judge { .. } | Run::Ended { .. }) => Ok(true),
         Ok(Run::Opening | Run::Event(_) | Run::Faulty) | Err(_) => Ok(false),
     }
@@ -46,7 +46,7 @@ fn is_named<R: Alloc<A = Global>>(
     if !passes(rt, before, growth)? {
         return Ok(false);
     }
-    match run_row(rt, with, growth)? {
+    match run_row(rt, with, growth)?.0 {
         Ok(Run::Event(named)) => Ok(named == event),
         _ => Ok(false),
     }
@@ -59,21 +59,21 @@ fn refuse_each<R: Alloc<A = Global>>(
     row: Row<'_, Event>,
     base: &Ending,
     sheet: &mut Sheet,
-    judged: &mut Tally,
 ) -> Result<bool, AllocError> {
     let mut alike = true;
     for growth in 0..100_000 {
-        match run_row(rt, row, growth)? {
+        match run_row(rt, row, growth)?.0 {
             Err(stage) => sheet.note_stage(stage),
             Ok(Run::Opening) => sheet.note_stage(Stage::Open),
             Ok(Run::Event(event)) => sheet.note(event, is_named(rt, row, growth, event)?),
-            Ok(Run::Judge { again }) => judged.note(again),
+            Ok(Run::Judge { again }) => sheet.note_judge(again),
             Ok(Run::Faulty) => return Ok(false),
             Ok(Run::Ended { ending, spent }) => {
                 alike &= ending.is_like(base);
                 if spent {
                     return Ok(alike);
                 }
+                sheet.count();
             }
         }
     }
@@ -81,29 +81,24 @@ fn refuse_each<R: Alloc<A = Global>>(
 }
 
 /// Prints what a run replied and its trace, with these tallies.
-fn tell_ending(
-    told: &mut String,
-    base: &Ending,
-    sheet: &Sheet,
-    judged: Tally,
-) -> Result<(), AllocError> {
+fn tell_ending(told: &mut String, base: &Ending, sheet: &Sheet) -> Result<(), AllocError> {
     writeln!(told, "run")?;
     sheet.tell(told, &base.replies)?;
-    judged.tell(told, "judge")?;
+    sheet.judge.tell(told, "judge")?;
     writeln!(told, "{}", base.trace)
 }
 
-/// Prints a run that ended so, and how it was refused memory.
+/// Prints a run that ended so and asked for this many allocations, and how it was refused memory.
 fn tell_reruns<R: Alloc<A = Global>>(
     rt: &R,
     row: Row<'_, Event>,
     base: &Ending,
+    asked: u64,
     told: &mut String,
 ) -> Result<(), AllocError> {
     let mut sheet = Sheet::new(rt.alloc(), row.calls.len())?;
-    let mut judged = Tally::NONE;
-    let ended = refuse_each(rt, row, base, &mut sheet, &mut judged)?;
-    tell_ending(told, base, &sheet, judged)?;
+    let ended = refuse_each(rt, row, base, &mut sheet)? && sheet.has_all(asked);
+    tell_ending(told, base, &sheet)?;
     tell_end(told, ended)
 }
 
@@ -114,7 +109,9 @@ fn tell_run<R: Alloc<A = Global>>(
     told: &mut String,
 ) -> Result<(), AllocError> {
     match run_row(rt, row, MANY)? {
-        Ok(Run::Ended { ending, .. }) => tell_reruns(rt, row, &ending, told),
+        (Ok(Run::Ended { ending, .. }), left) => {
+            tell_reruns(rt, row, &ending, MANY.wrapping_sub(left), told)
+        }
         _ => writeln!(told, "not run"),
     }
 }

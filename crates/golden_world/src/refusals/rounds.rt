@@ -74,7 +74,10 @@ fn refuse_each<R: Alloc<A = Global> + Threads + Sync>(
                         sheet.note(call, same);
                     }
                     None if played.spent => return Ok(alike && is_alike),
-                    None => alike &= is_alike,
+                    None => {
+                        sheet.count();
+                        alike &= is_alike;
+                    }
                 }
             }
         }
@@ -90,7 +93,8 @@ fn tell_rounds<R: Alloc<A = Global> + Threads + Sync>(
     told: &mut String,
 ) -> Result<(), AllocError> {
     let mut sheet = Sheet::new(rt.alloc(), row.calls.len())?;
-    let ended = refuse_each(rt, row, base, &mut sheet)?;
+    let ended = refuse_each(rt, row, base, &mut sheet)?
+        && sheet.has_all(MANY.wrapping_sub(base.left));
     sheet.tell(told, &base.showing.answers)?;
     writeln!(told, "{}", base.chapter)?;
     tell_end(told, ended)

@@ -54,13 +54,16 @@ const MAKERS: [&str; 9] = [
     "judge",
 ];
 
-/// The tallies of a row: of what stands before its calls, and of each call.
+/// The tallies of a row: of what stands before its calls, of each call, and of the judge of a run.
 #[derive(Drop)]
 pub(crate) struct Sheet {
     /// By stage.
     stages: [Tally; 5],
     /// By call.
     calls: Vec<Tally>,
+    pub(crate) judge: Tally,
+    /// How many refused allocations were noted.
+    noted: u64,
 }
 
 impl Sheet {
@@ -69,11 +72,25 @@ impl Sheet {
         Ok(Sheet {
             stages: [Tally::NONE; 5],
             calls: vec![in alloc; Tally::NONE; calls]?,
+            judge: Tally::NONE,
+            noted: 0,
         })
+    }
+
+    /// Notes a refusal that was made up for.
+    pub(crate) fn count(&mut self) {
+        self.noted = self.noted.saturating_add(1);
+    }
+
+    /// Whether a refusal was noted for each of the allocations that a play without one asks for, of which the last
+    /// comes after its calls.
+    pub(crate) fn has_all(&self, asked: u64) -> bool {
+        self.noted.saturating_add(1) == asked
     }
 
     /// Notes a refusal before the first call.
     pub(crate) fn note_stage(&mut self, stage: Stage) {
+        self.count();
         for (tally, other) in self.stages.iter_mut().zip(Stage::ALL.iter()) {
             if *other == stage {
                 tally.note(true);
@@ -83,9 +100,16 @@ impl Sheet {
 
     /// Notes a refusal of the call of this number, from 0.
     pub(crate) fn note(&mut self, call: usize, same: bool) {
+        self.count();
         if let Some(tally) = self.calls.get_mut(call) {
             tally.note(same);
         }
+    }
+
+    /// Notes a refusal of the judge.
+    pub(crate) fn note_judge(&mut self, same: bool) {
+        self.count();
+        self.judge.note(same);
     }
 
     /// A line for each stage and each call with its answer.
@@ -100,7 +124,8 @@ impl Sheet {
     }
 }
 
-/// Writes the last line of a test case: whether a play was reached in which no allocation was refused.
+/// Writes the last line of a test case: whether a play was reached in which no allocation was refused, and each before
+/// it was noted.
 pub(crate) fn tell_end(told: &mut String, ended: bool) -> Result<(), AllocError> {
     let end = if ended {
         "no more growths"

@@ -15,11 +15,13 @@ overflow_sub-result c = below-some c.deref-3.result.now c.begin_of-begin.result 
 pub returns-then-has_less-clause-fault : goal.returns-then-has_less-clause-fault
 returns-then-has_less-clause-fault c =
     let begin = c.begin_of-begin.result in
-    let last = c.in-Some.last in
-    is-missing (map (λ s. string_bytes s) c.args.names.now) c.in_ok-numbers.numbers.items c.in_ok-numbers.ensures.ok begin last
-    (subst (λ (l : List ℕ). Contains l last) c.deref.ensures.value c.in-Some.ensures.0) (subst (λ (l : List ℕ). All (λ n. n ≤ last) l) c.deref.ensures.value c.in-Some.ensures.1)
-    (subst (λ (l : List ℕ). IsRun l begin last) c.deref-2.ensures.value c.begin_of-begin.ensures)
-    (subst (λ (l : List ℕ). list_any (λ n. nat_lt n begin) l ≡ true) c.deref-3.ensures.value (sym c.has_less.ensures ∙ c.if-has_less.true))
+    let last = c.in-Some.last in (
+      c.in_ok-numbers.ensures.readable,
+      is-missing (map (λ s. string_bytes s) c.args.names.now) c.in_ok-numbers.numbers.items c.in_ok-numbers.ensures.ok begin last
+          (subst (λ (l : List ℕ). Contains l last) c.deref.ensures.value c.in-Some.ensures.0) (subst (λ (l : List ℕ). All (λ n. n ≤ last) l) c.deref.ensures.value c.in-Some.ensures.1)
+          (subst (λ (l : List ℕ). IsRun l begin last) c.deref-2.ensures.value c.begin_of-begin.ensures)
+          (subst (λ (l : List ℕ). list_any (λ n. nat_lt n begin) l ≡ true) c.deref-3.ensures.value (sym c.has_less.ensures ∙ c.if-has_less.true)),
+    )
 
 pub returns-clause-ok : goal.returns-clause-ok
 returns-clause-ok c =
