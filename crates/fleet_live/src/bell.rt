@@ -7,7 +7,7 @@ use std::mem;
 use std::sync::{Condvar, CondvarTimeouts, Mutex, Wait};
 use std::time::{Clock, Duration};
 
-/// A request of a conversation, and the mark of its answer.
+/// A request of a conversation, and the mark under which it is answered.
 #[derive(Drop)]
 pub(crate) struct Wish {
     pub(crate) place: usize,
@@ -82,7 +82,7 @@ impl Asks {
     }
 }
 
-/// The keeper's bell.
+/// The keeper's bell: conversations leave their requests here, and the keeper does them between two turns.
 #[derive(Drop)]
 pub(crate) struct Bell {
     asks: Mutex<Asks>,
@@ -105,7 +105,7 @@ impl Bell {
         }
     }
 
-    /// Asks for something, which is answered.
+    /// Leaves a request that the keeper answers.
     pub(crate) fn ask<R: Wait>(&self, rt: &R, wish: Wish) -> Result<(), AllocError> {
         let mut held = self.asks.lock(rt);
         let asks = &mut *held;
@@ -200,7 +200,7 @@ impl Bell {
         asks.next()
     }
 
-    /// Waits until something is to be done, for so long at most.
+    /// Waits until something is to be done, but no longer than this.
     pub(crate) fn wait_for<R: Wait + Clock>(&self, rt: &R, time: Duration) -> Call {
         let (mut held, _result) = self
             .rung

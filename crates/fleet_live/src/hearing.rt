@@ -34,7 +34,7 @@ struct Hearing<'a, N: OfficeName<Global>> {
     bell: &'a Bell,
     /// Whether turns come by themselves.
     paced: bool,
-    /// How many wishes it had.
+    /// How many wishes it sent to the keeper.
     wishes: u64,
 }
 
