@@ -7,8 +7,7 @@ ghost use Rattle.errands_lib.specs.Told.{IsShown, names_two};
 
 use crate::job::Job;
 use crate::program::{fail, run_program};
-use fleet_hooks::{ArrivalHook, Farewell, Hooks, TieHook};
-use fleet_text::{HookKit, InputFault};
+use fleet_text::{InputFault, program_kit};
 use std::alloc::{Alloc, AllocError, Global};
 use std::io::{Read, Write};
 use std::sync::Wait;
@@ -32,22 +31,7 @@ fn run_with_hooks<R: Alloc<A = Global> + Threads + Sync + Wait, I: Read, W: Writ
     ensures output { OnErr result (output.new ≡ output.old) }
     ensures error { OnErr result (error.new ≡ error.old) }
 {
-    let alloc = rt.alloc();
-    let plain = Hooks::alike(
-        alloc,
-        ROBOTS,
-        TieHook::fixed([0; 4]),
-        ArrivalHook::fixed(0),
-        Farewell::fixed(0),
-    )?;
-    let south = Hooks::alike(
-        alloc,
-        ROBOTS,
-        TieHook::south_first(),
-        ArrivalHook::by_tick(),
-        Farewell::by_cell(),
-    )?;
-    let kit = HookKit { plain, south };
+    let kit = program_kit!(rt.alloc(), ROBOTS);
     Ok(run_program(rt, job, map, other, output, error, kit))
 }
 

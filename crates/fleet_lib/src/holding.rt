@@ -9,11 +9,13 @@ ghost use Rattle.fleet_talk.specs.Heading.{drafted};
 ghost use Rattle.fleet_lib.specs.Ended.{EndsWith, IsEnded, broken_off, file_shown, kept_end, terms_of};
 
 use crate::kept::{KeptFault, KeptText, kept_chapter};
-use crate::kit::program_kit;
 use fleet_grid::Grid;
 use fleet_history::Chapter;
 use fleet_script::Head;
-use fleet_talk::{ChapterSink, Ends, Ground, ResumeFault, Settings, TalkFault, converse, resume};
+use fleet_talk::{
+    ChapterSink, Ends, Ground, MOST_ROBOTS, ResumeFault, Settings, TalkFault, converse, resume,
+};
+use fleet_text::program_kit;
 use std::alloc::{Alloc, Global};
 use std::io::{Read, Write};
 
@@ -60,7 +62,7 @@ fn hold_with_hooks<R: Alloc<A = Global>, I: Read, W: Write, S: ChapterSink>(
         EndsWith (terms_of ground.0 (drafted ground.1) settings) (option_map chapter_shown kept) bytes
         (W.contents ends.old.output) (W.contents ends.new.output) (record { old = S.kept ends.old.sink; new = S.kept ends.new.sink }) result) }
 {
-    let kit = program_kit!(rt.alloc());
+    let kit = program_kit!(rt.alloc(), MOST_ROBOTS);
     let (grid, head) = ground;
     hold_on(rt, Ground { grid, kit, head }, kept, settings, ends)
 }

@@ -8,7 +8,6 @@ mod ending;
 mod explain;
 mod holding;
 mod kept;
-mod kit;
 mod live;
 mod names;
 mod plan_trace;

@@ -5,7 +5,6 @@ ghost use Rattle.fleet_map.specs.Text.{number_of};
 
 use crate::ending::tell_end;
 use crate::kept::{KeptFault, kept_chapter};
-use crate::kit::program_kit;
 use crate::said::fail;
 use crate::talk::{TalkTexts, complain, grounds};
 use crate::words::Live;
@@ -15,7 +14,7 @@ use fleet_live::{LiveEnds, LiveSettings, keep_live, read_period, resume_live};
 use fleet_map::text::number_up_to;
 use fleet_script::Head;
 use fleet_talk::{ChapterSink, Ground, MOST_ROBOTS, ResumeFault};
-use fleet_text::{InputFault, write_whole};
+use fleet_text::{InputFault, program_kit, write_whole};
 use std::alloc::{Alloc, AllocError, Global};
 use std::io::{Read, Write};
 use std::sync::Wait;
@@ -215,7 +214,7 @@ fn keep_with_hooks<
     settings: LiveSettings,
     ends: LiveEnds<I, W, P, Q, E, S>,
 ) -> Result<bool, ResumeFault> {
-    let kit = program_kit!(rt.alloc());
+    let kit = program_kit!(rt.alloc(), MOST_ROBOTS);
     let ground = Ground { grid, kit, head };
     match kept {
         Some(chapter) => resume_live(rt, ground, chapter, settings, ends),

@@ -16,7 +16,7 @@ use fleet_history::Chapter;
 use fleet_lanes::Client;
 use fleet_office::{ConcludeFault, Final, Guest, Home, Office, OfficeName, Ticker, clients_of};
 use fleet_talk::ChapterSink;
-use fleet_text::notice_line;
+use fleet_text::{ended_line, notice_line};
 use live_parts::{Archive, Stop};
 use std::alloc::{Alloc, AllocError, Global};
 use std::mem;
@@ -187,7 +187,7 @@ fn say_ended<N: OfficeName<Global>, R: Alloc<A = Global> + Wait>(
     conversations: &[Arc<Conversation<N>>],
     tick: u64,
 ) -> Result<(), AllocError> {
-    let last = format!(in rt.alloc(); "ended {tick}\n")?;
+    let last = ended_line(rt.alloc(), tick)?;
     for one in conversations {
         one.voice.say_last(rt, last.as_str())?;
     }

@@ -6,7 +6,7 @@ use crate::inbox::Inbox;
 use fleet_book::Order;
 use fleet_office::OfficeName;
 use fleet_talk::{Line, LineFault, MOST_LINE, line_of, read_line};
-use fleet_text::{bad_line, no_client_line};
+use fleet_text::{bad_line, no_client_line, watch_line};
 use live_parts::{Demand, Stop, Wanted, demand_of};
 use std::alloc::{AllocError, Global};
 use std::io::{BufReader, Read};
@@ -119,8 +119,7 @@ impl<'a, N: OfficeName<Global>> Hearing<'a, N> {
             Demand::Ask(wanted) => self.ask(rt, alloc, line.mark, wanted)?,
             Demand::Watch(on) => {
                 self.here.watch(on);
-                let text = if on { "watch on\n" } else { "watch off\n" };
-                self.here.voice.say(rt, line.mark, text)?;
+                self.here.voice.say(rt, line.mark, watch_line(on))?;
             }
             Demand::Bad => {
                 let text = bad_line(alloc, line.number)?;

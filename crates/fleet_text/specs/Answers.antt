@@ -1,5 +1,5 @@
 -- The lines that answer a line of a conversation, or an order of a fleet in real time.
-use Rattle.std.specs.Prelude.{ℕ, List, [], ◌++◌, length, Option, Some, None, Result, Ok, Err, codes, decimal}
+use Rattle.std.specs.Prelude.{Bool, if◌then◌else◌, ℕ, List, [], ◌++◌, length, Option, Some, None, Result, Ok, Err, codes, decimal}
 use Rattle.std.specs.List.{flat_map}
 use Rattle.fleet_core.specs.declared.faults.ShutFault.{ShutFault}
 use Rattle.fleet_core.specs.declared.open_errands.OpenErrand.{OpenErrand}
@@ -32,6 +32,14 @@ chapter_line number entries = codes "chapter " ++ (decimal number ++ (codes " en
 -- no chapter can follow
 abbrev pub chapter_refused_line : List ℕ
 chapter_refused_line = codes "chapter-refused 1 book-spent\n"
+
+-- whether tick lines are shown from now on
+abbrev pub watch_line : Bool → List ℕ
+watch_line on = if on then codes "watch on\n" else codes "watch off\n"
+
+-- a fleet in real time ended
+abbrev pub ended_line : ℕ → List ℕ
+ended_line tick = codes "ended " ++ decimal tick ++ codes "\n"
 
 -- ---- open errands
 

@@ -3,7 +3,7 @@
 ghost use Rattle.std.specs.Prelude.{◌≡◌, ◌++◌, IfOk, OnOk, codes, decimal, string_bytes};
 ghost use Rattle.std.specs.List.{flat_map};
 ghost use Rattle.fleet_text.specs.Output.{no_client_line, notice_line, posted_line, shut_refused_line, tick_refused_line};
-ghost use Rattle.fleet_text.specs.Answers.{bad_line, chapter_line, chapter_refused_line, open_line, open_text, post_text, shut_text};
+ghost use Rattle.fleet_text.specs.Answers.{bad_line, chapter_line, chapter_refused_line, ended_line, open_line, open_text, post_text, shut_text, watch_line};
 
 use crate::runs::{
     write_notice, write_numbered, write_posted, write_shut_refused, write_tick_refused,
@@ -118,6 +118,20 @@ pub fn chapter_refused_line() -> &'static str
     ensures { result.now ≡ chapter_refused_line }
 {
     "chapter-refused 1 book-spent\n"
+}
+
+/// The answer to `watch on` and to `watch off`.
+pub fn watch_line(on: bool) -> &'static str
+    ensures { result.now ≡ watch_line on }
+{
+    if on { "watch on\n" } else { "watch off\n" }
+}
+
+/// The last line of a fleet in real time, which made this many ticks.
+pub fn ended_line(alloc: Global, tick: u64) -> Result<String, AllocError>
+    ensures { IfOk result (λ line. string_bytes line ≡ ended_line tick) }
+{
+    format!(in alloc; "ended {tick}\n")
 }
 
 /// Adds the line of an open errand.

@@ -25,3 +25,27 @@ impl<A: Allocator + Copy> HookKit<A> {
         if southern { south } else { plain }
     }
 }
+
+/// Makes the hooks of the programs, for this many robots. It is a macro, since no function may hand out hooks that it
+/// makes; the function that calls it returns the `AllocError` if there is no memory for them.
+#[macro_export]
+macro_rules! program_kit {
+    ($alloc:expr, $robots:expr) => {{
+        let alloc = $alloc;
+        let plain = fleet_hooks::Hooks::alike(
+            alloc,
+            $robots,
+            fleet_hooks::TieHook::fixed([0; 4]),
+            fleet_hooks::ArrivalHook::fixed(0),
+            fleet_hooks::Farewell::fixed(0),
+        )?;
+        let south = fleet_hooks::Hooks::alike(
+            alloc,
+            $robots,
+            fleet_hooks::TieHook::south_first(),
+            fleet_hooks::ArrivalHook::by_tick(),
+            fleet_hooks::Farewell::by_cell(),
+        )?;
+        $crate::HookKit { plain, south }
+    }};
+}

@@ -40,7 +40,7 @@ fn judge_chapter(
 }
 
 /// The judge's verdict on each of the chapters.
-fn judge_each(
+pub(crate) fn judge_each(
     alloc: Global,
     grid: &Grid,
     chapters: &[Chapter],
