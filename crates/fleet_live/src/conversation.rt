@@ -114,7 +114,7 @@ impl<N: OfficeName<Global>> Conversation<N> {
         self.watching.load(Ordering::SeqCst) != 0
     }
 
-    /// Notes that the keeper granted a wish.
+    /// Notes that the keeper granted a request.
     pub(crate) fn note_grant<R: Wait>(&self, rt: &R) {
         let mut held = self.granted.lock(rt);
         let granted = &mut *held;
@@ -123,7 +123,7 @@ impl<N: OfficeName<Global>> Conversation<N> {
         self.answered.notify_all();
     }
 
-    /// Waits until the keeper granted this many wishes.
+    /// Waits until the keeper granted this many requests.
     pub(crate) fn wait_for_grant<R: Wait>(&self, rt: &R, count: u64) {
         let held = self
             .answered

@@ -1,6 +1,6 @@
 //! How the keeper answers requests of conversations.
 
-use crate::bell::Wish;
+use crate::bell::Request;
 use crate::keeper::{Keeper, Turned};
 use crate::stage::{Round, Work};
 use fleet_core::{ChapterFault, ShutFault, TickFault};
@@ -103,7 +103,7 @@ impl<N: OfficeName<Global>, S: ChapterSink> Keeper<'_, N, S> {
         Ok(open_text(rt.alloc(), client, &errands)?)
     }
 
-    /// The answer to a wish.
+    /// The answer to a request.
     fn answer<R: Alloc<A = Global> + Wait>(
         &self,
         rt: &R,
@@ -128,19 +128,19 @@ impl<N: OfficeName<Global>, S: ChapterSink> Keeper<'_, N, S> {
         }
     }
 
-    /// Grants a wish.
+    /// Grants a request.
     pub(crate) fn grant<R: Alloc<A = Global> + Wait>(
         &self,
         rt: &R,
         round: &mut Round,
         work: &mut Work<N>,
-        wish: Wish,
+        request: Request,
     ) -> Result<(), Stop> {
-        let Wish {
+        let Request {
             place,
             mark,
             wanted,
-        } = wish;
+        } = request;
         let text = self.answer(rt, round, work, wanted)?;
         let Some(one) = self.stage.conversations.get(place) else {
             return Ok(());

@@ -264,7 +264,7 @@ impl<N: OfficeName<Global>, S: ChapterSink> Keeper<'_, N, S> {
         match call {
             Call::Nothing => Ok(()),
             Call::Stop(stop) => Err(stop),
-            Call::Grant(wish) => self.grant(rt, round, work, wish),
+            Call::Grant(request) => self.grant(rt, round, work, request),
             Call::Settle => self.settle(rt, round, work),
             Call::Tell => Ok(self.tell_all(rt, &mut round.due)?),
             Call::Show => Ok(self.show_figures(rt, round)?),

@@ -93,8 +93,9 @@ fn say_counts<N: OfficeName<Global>, R: Alloc<A = Global> + Wait, S: ChapterSink
     Ok(())
 }
 
-/// Does what waits to be done: shows the figures, hands out the chapter, grants at most one wish of each conversation,
-/// and judges once what was posted. So requests delay no turn for long, and are done even if each turn is late.
+/// Does what waits to be done: shows the figures, hands out the chapter, grants at most one request of each
+/// conversation, and judges once what was posted. So requests delay no turn for long, and are done even if each turn is
+/// late.
 fn heed_some<N: OfficeName<Global>, R: Alloc<A = Global> + Wait, S: ChapterSink>(
     rt: &R,
     keeper: &Keeper<'_, N, S>,
