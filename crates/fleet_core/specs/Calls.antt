@@ -1,6 +1,9 @@
 -- What a tick and a shut answer: refused exactly for these reasons, in this order, or made.
-use Rattle.std.specs.Prelude.{ℕ, ◌≡◌, ◌<◌, ◌≤◌, ◌↔◌, true, false, Option, Result, Err, IfOk, OnOk, OnErr}
-use Rattle.fleet_history.specs.History.{robots, clock, is_shut}
+use Rattle.std.specs.Prelude.{⊤, ℕ, ◌≡◌, ◌<◌, ◌≤◌, ◌↔◌, true, false, Option, Result, Err, IfOk, OnOk, OnErr, All}
+use Rattle.fleet_history.specs.declared.history.Entry.{Entry}
+use Rattle.fleet_history.specs.declared.history.Entry.TheVariants.{Take, Tick, Shut}
+use Rattle.fleet_history.specs.History.{History, robots, clock, is_shut}
+use Rattle.fleet_history.specs.Legal.{arrival_law, farewell_law}
 use Rattle.fleet_core.specs.declared.faults.TickFault.{TickFault}
 use Rattle.fleet_core.specs.declared.faults.TickFault.TheVariants as tick_fault
 use Rattle.fleet_core.specs.declared.faults.ShutFault.{ShutFault}
@@ -16,6 +19,13 @@ pub record AnswersTick {A : Type 0} (w : World A) (answer : Result TickReport Ti
   pub entries : OnOk answer (HasEntries w)
   pub ok : IfOk answer (λ report. Ticks w report v)
   pub err : OnErr answer (v ≡ w)
+
+-- each arrival and farewell of a tick after the history has the least stamp that its robot's law allows
+abbrev pub HasLeastStamps : {A : Type 0} → History A → Entry A → Type 0
+HasLeastStamps h (Tick to arrived farewells) =
+    All (λ a. a.stamp ≡ (arrival_law h a.robot).low) arrived × All (λ b. b.stamp ≡ (farewell_law h b.robot).low) farewells
+HasLeastStamps h (Take client order verdict) = ⊤
+HasLeastStamps h (Shut robot farewell) = ⊤
 
 -- the answer to the shut of a robot of world w, which is v afterwards
 pub record AnswersShut {A : Type 0} (w : World A) (robot : ℕ) (answer : Result (Option ℕ) ShutFault) (v : World A) : Type 0 where

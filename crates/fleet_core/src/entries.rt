@@ -3,12 +3,13 @@
 ghost use Rattle.std.specs.Prelude.{◌≡◌, ◌≤◌, ◌<◌, ◌++◌, ◌∷◌, ◌↔◌, [], true, false, OnOk, OnErr, IfOk, map, vec_len, vec_capacity};
 ghost use Rattle.fleet_bound.specs.Arriving.{ArrivesInTurn};
 ghost use Rattle.fleet_planner.specs.Courses.{goals_of};
-ghost use Rattle.fleet_history.specs.History.{clients, robots, clock, is_shut};
+ghost use Rattle.fleet_history.specs.History.{after, clients, robots, clock, is_shut};
 ghost use Rattle.fleet_planner.specs.Aimed.{MayBegin, begun, begun_goals};
 ghost use Rattle.fleet_core.specs.Hooks.{AreArrivals, AreFarewells, spare_laws};
 ghost use Rattle.fleet_core.specs.Core.{Takes, Ticks, Shuts, HasRoom, HasNoRoom, HasEntries, HasNoEntries};
-ghost use Rattle.fleet_core.specs.Calls.{AnswersTick};
+ghost use Rattle.fleet_core.specs.Calls.{AnswersTick, HasLeastStamps};
 ghost use Rattle.fleet_core.specs.inside.Ready.{IsOnSame};
+ghost use Rattle.fleet_core.specs.inside.Stamped.{AreClosures};
 
 use crate::faults::{ShutFault, TakeFault, TickFault, TickReport};
 use crate::kernel::Core;
@@ -131,35 +132,42 @@ impl<A: Allocator + Copy> Core<A> {
         ensures err { OnErr result (self.new ≡ self.old) }
         ensures farewells { AreFarewells self.new.history (spare_laws farewells.new.items) }
     {
-        if self.is_spent() {
-            return Err(TickFault::ClockSpent);
-        }
-        if self.is_full() {
-            return Err(TickFault::ChapterFull);
-        }
-        let planner = &mut self.planner;
-        let entries = &mut self.chapter.entries;
-        let mut step = ready(rt.alloc(), &self.grid, &self.state, planner, ties, entries)?;
-        let report = step.stamp(arrivals, farewells, self.state.clock() + 1);
-        self.mailboxes.deliver(&step.arrived, &step.to, report.tick);
-        self.state.enter_tick(&step.to);
-        add(&mut self.chapter.entries, tick_entry(step));
-        Ok(report)
+        self.tick_as(rt, ties, arrivals, farewells, false)
     }
 
-    /// Moves all robots by one step, as a world does, with tie hooks next to the core. Arrivals and farewells get the
-    /// least stamps that the robots' laws allow, so they need no hooks. The clause says that stamps are within the laws,
-    /// and not which they are: it is exact where a law allows one stamp.
+    /// Moves all robots by one step, as a world does, with tie hooks next to the core. Each arrival and farewell gets
+    /// the least stamp that its robot's law allows, so none needs a hook.
     pub fn tick_by_ties<R: Alloc<A = A>>(
         &mut self,
         rt: &R,
         ties: &[TieHook],
     ) -> Result<TickReport, TickFault>
-        ensures { AnswersTick self.old result self.new }
+        ensures answer { AnswersTick self.old result self.new }
+        ensures least { (e : _) → self.new.history ≡ after self.old.history e → HasLeastStamps self.old.history e }
     {
         if !are_ties(ties, self.tie_laws()) {
             return self.no_tick();
         }
+        let mut none = Vec::new(rt.alloc());
+        self.tick_as(rt, ties, &[], &mut none, true)
+    }
+
+    /// A tick. With `least`, stamps are the least that the robots' laws allow, and only tie closures are called; else
+    /// the closures for arrivals and farewells are called too, when nothing can fail any more.
+    fn tick_as<R: Alloc<A = A>>(
+        &mut self,
+        rt: &R,
+        ties: &[TieHook],
+        arrivals: &[ArrivalHook],
+        farewells: &mut Vec<Option<Farewell>, A>,
+        least: bool,
+    ) -> Result<TickReport, TickFault>
+        requires ties { map (λ h. h.law) ties.now ≡ self.old.ties }
+        requires closures { least ≡ false → AreClosures self.old.history (map (λ h. h.law) arrivals.now) (spare_laws farewells.old.items) }
+        ensures answer { AnswersTick self.old result self.new }
+        ensures farewells { least ≡ false → AreFarewells self.new.history (spare_laws farewells.new.items) }
+        ensures lowest { least ≡ true → (e : _) → self.new.history ≡ after self.old.history e → HasLeastStamps self.old.history e }
+    {
         if self.is_spent() {
             return Err(TickFault::ClockSpent);
         }
@@ -170,8 +178,9 @@ impl<A: Allocator + Copy> Core<A> {
         let entries = &mut self.chapter.entries;
         let mut step = ready(rt.alloc(), &self.grid, &self.state, planner, ties, entries)?;
         let robots = self.chapter.opening.robots.as_slice();
-        let report = step.stamp_least(robots, self.state.clock() + 1);
-        self.mailboxes.deliver(&step.arrived, &step.to, report.tick);
+        let tick = self.state.clock() + 1;
+        let report = step.stamp_as(robots, arrivals, farewells, least, tick);
+        self.mailboxes.deliver(&step.arrived, &step.to, tick);
         self.state.enter_tick(&step.to);
         add(&mut self.chapter.entries, tick_entry(step));
         Ok(report)

@@ -1,12 +1,12 @@
 //! The step of a tick: the part that allocates, before the state is changed.
 
-ghost use Rattle.std.specs.Prelude.{◌≡◌, ◌<◌, ◌^◌, length, map, vec_len, IfOk, OnOk, OnErr};
+ghost use Rattle.std.specs.Prelude.{◌≡◌, ◌<◌, ◌^◌, true, false, length, map, vec_len, IfOk, OnOk, OnErr};
 ghost use Rattle.fleet_planner.specs.Courses.{goals_of};
 ghost use Rattle.fleet_state.specs.State.{robot_count};
 ghost use Rattle.fleet_planner.specs.Aimed.{MayPlan};
 ghost use Rattle.fleet_core.specs.Hooks.{spare_laws, without_all};
 ghost use Rattle.fleet_core.specs.inside.Ready.{IsStep, IsReady, IsOnSame};
-ghost use Rattle.fleet_core.specs.inside.Stamped.{MayStamp, AreStamped, HaveStamps, own_laws};
+ghost use Rattle.fleet_core.specs.inside.Stamped.{MayStamp, AreStamped, AreLeast, HaveStamps, own_laws, laws_as, spare_as};
 
 use crate::faults::TickReport;
 use crate::least_stamps;
@@ -28,9 +28,33 @@ pub(crate) struct TickDraft<A: Allocator + Copy> {
 }
 
 impl<A: Allocator + Copy> TickDraft<A> {
+    /// Writes stamps: with `least` the least that the robots' laws allow, else what the closures return (`stamp`).
+    pub(crate) fn stamp_as(
+        &mut self,
+        robots: &[RobotState<A>],
+        arrivals: &[ArrivalHook],
+        farewells: &mut Vec<Option<Farewell>, A>,
+        least: bool,
+        tick: u64,
+    ) -> TickReport
+        requires may { MayStamp (length (laws_as least robots.now (map (λ h. h.law) arrivals.now))) (length (spare_as least robots.now (spare_laws farewells.old.items))) (spare_as least robots.now (spare_laws farewells.old.items)) self.old.to.items self.old.arrived.items self.old.leaving.items }
+        requires orderly { HaveStamps robots.now }
+        ensures to { self.new.to.items ≡ self.old.to.items }
+        ensures stamped { AreStamped (laws_as least robots.now (map (λ h. h.law) arrivals.now)) (spare_as least robots.now (spare_laws farewells.old.items)) self.old.arrived.items self.new.arrived.items self.old.leaving.items self.new.leaving.items }
+        ensures spent { least ≡ false → spare_laws farewells.new.items ≡ without_all (map (λ b. b.robot) self.old.leaving.items) (spare_laws farewells.old.items) }
+        ensures lowest { least ≡ true → AreLeast robots.now self.new.arrived.items self.new.leaving.items }
+        ensures report { result ≡ record { tick = tick; arrived = length self.new.arrived.items; farewells = length self.new.leaving.items } }
+    {
+        if least {
+            self.stamp_least(robots, tick)
+        } else {
+            self.stamp(arrivals, farewells, tick)
+        }
+    }
+
     /// Calls the robots' closures in this tick, at the arrivals and where robots say farewell, and writes their stamps.
     /// The farewells that are called are spent.
-    pub(crate) fn stamp(
+    fn stamp(
         &mut self,
         arrivals: &[ArrivalHook],
         farewells: &mut Vec<Option<Farewell>, A>,
@@ -48,11 +72,12 @@ impl<A: Allocator + Copy> TickDraft<A> {
     }
 
     /// Writes the least stamps that the robots' laws allow.
-    pub(crate) fn stamp_least(&mut self, robots: &[RobotState<A>], tick: u64) -> TickReport
+    fn stamp_least(&mut self, robots: &[RobotState<A>], tick: u64) -> TickReport
         requires may { MayStamp (length robots.now) (length robots.now) (own_laws robots.now) self.old.to.items self.old.arrived.items self.old.leaving.items }
         requires orderly { HaveStamps robots.now }
         ensures to { self.new.to.items ≡ self.old.to.items }
         ensures stamped { AreStamped (map (λ x. x.arrival_law) robots.now) (own_laws robots.now) self.old.arrived.items self.new.arrived.items self.old.leaving.items self.new.leaving.items }
+        ensures lowest { AreLeast robots.now self.new.arrived.items self.new.leaving.items }
         ensures report { result ≡ record { tick = tick; arrived = length self.new.arrived.items; farewells = length self.new.leaving.items } }
     {
         least_stamps::arrive(&mut self.arrived, robots);

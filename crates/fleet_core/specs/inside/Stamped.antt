@@ -1,16 +1,31 @@
--- A step whose stamps the closures give.
-use Rattle.std.specs.Prelude.{ℕ, ◌≡◌, ◌<◌, ◌^◌, List, Option, Some, All, is_some, true, None, length, map, slice_index_or}
+-- A step whose stamps the closures give, or which are the least that the robots' laws allow.
+use Rattle.std.specs.Prelude.{ℕ, ◌≡◌, ◌<◌, ◌^◌, Bool, true, false, List, Option, Some, All, is_some, None, length, map, slice_index_or}
 use Rattle.fleet_hooks.specs.declared.law.StampLaw.{StampLaw}
 use Rattle.fleet_hooks.specs.Law.{IsStamp, IsStampLaw}
 use Rattle.fleet_history.specs.declared.history.Arrival.{Arrival}
 use Rattle.fleet_history.specs.declared.history.Bye.{Bye}
 use Rattle.fleet_history.specs.declared.history.RobotState.{RobotState}
+use Rattle.fleet_history.specs.History.{History}
 use Rattle.fleet_history.specs.Legal.{due_of}
-use Rattle.fleet_core.specs.Hooks.{law_at, DoRise, IsLastStamp}
+use Rattle.fleet_core.specs.Hooks.{AreArrivals, AreFarewells, law_at, DoRise, IsLastStamp}
 
 -- the laws of the robots' farewells, of which none was called
 abbrev pub own_laws : {A : Type 0} → List (RobotState A) → List (Option StampLaw)
 own_laws robots = map (λ x. Some x.farewell_law) robots
+
+-- the laws of arrivals and of farewells that stamps follow: the robots' own where they are the least, else the closures'
+abbrev pub laws_as : {A : Type 0} → Bool → List (RobotState A) → List StampLaw → List StampLaw
+laws_as true robots laws = map (λ x. x.arrival_law) robots
+laws_as false robots laws = laws
+
+abbrev pub spare_as : {A : Type 0} → Bool → List (RobotState A) → List (Option StampLaw) → List (Option StampLaw)
+spare_as true robots spare = own_laws robots
+spare_as false robots spare = spare
+
+-- closures with these laws are the robots'
+pub record AreClosures {A : Type 0} (h : History A) (laws : List StampLaw) (spare : List (Option StampLaw)) : Type 0 where
+  pub arrivals : AreArrivals h laws
+  pub farewells : AreFarewells h spare
 
 -- each law of the robots allows a stamp
 pub record HaveStamps {A : Type 0} (robots : List (RobotState A)) : Type 0 where
@@ -34,3 +49,9 @@ pub record AreStamped (laws : List StampLaw) (spare : List (Option StampLaw)) (c
   pub stamps : All (λ a. IsStamp (law_at laws a.robot) a.stamp) stamped
   pub robots : map (λ b. b.robot) last ≡ map (λ b. b.robot) gone
   pub last_stamps : All (λ b. IsLastStamp spare b.robot b.stamp) last
+
+-- each stamp is the least that its robot's law allows
+abbrev pub AreLeast : {A : Type 0} → List (RobotState A) → List Arrival → List Bye → Type 0
+AreLeast robots stamped last =
+    All (λ a. a.stamp ≡ (law_at (map (λ x. x.arrival_law) robots) a.robot).low) stamped
+    × All (λ b. b.stamp ≡ (law_at (map (λ x. x.farewell_law) robots) b.robot).low) last

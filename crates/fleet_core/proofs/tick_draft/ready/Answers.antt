@@ -1,4 +1,4 @@
-use Rattle.std.proofs.Common.{◌∙◌, List, ℕ, length, refl, ap, subst, arith, ◌≡◌}
+use Rattle.std.proofs.Common.{◌∙◌, List, ℕ, length, refl, ap, subst, arith}
 use Rattle.std.proofs.lemmas.Result.{IfOk-from_err}
 use Rattle.fleet_state.proofs.Parts.{cell-count, queue-count}
 use Rattle.fleet_grid.specs.Floor.{Floor}
