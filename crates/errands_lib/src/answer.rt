@@ -1,4 +1,4 @@
-//! The answer to the texts that it read.
+//! The answer to the texts of a job's files.
 
 ghost use Rattle.std.specs.Prelude.{◌≡◌, ◌≤◌, false, length, IfOk};
 ghost use Rattle.errands_lib.specs.Asked.{is_serve};

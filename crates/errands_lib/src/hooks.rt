@@ -35,7 +35,7 @@ fn run_with_hooks<R: Alloc<A = Global> + Threads + Sync + Wait, I: Read, W: Writ
     Ok(run_program(rt, job, map, other, output, error, kit))
 }
 
-/// Does the job with the program's hooks. Returns the status, 7 where there was no memory for them.
+/// Does the job with the program's hooks. Returns the status, 7 if there was no memory for them.
 pub fn run_with_kit<R: Alloc<A = Global> + Threads + Sync + Wait, I: Read, W: Write, E: Write>(
     rt: &R,
     job: &Job,

@@ -13,9 +13,9 @@ pub trait Inputs {
 
     type Input: Read + Drop;
 
-    /// Says what opening the file with this name gave.
+    /// What is known of the inputs, a name and a result, if opening the file with this name gave the result.
     ghost opens: { Self → List ℕ → Result Self.File InputFault → Self → Type 0 };
-    /// Says that standard input was taken.
+    /// What is known of the inputs before, standard input, and the inputs after it was taken.
     ghost reads: { Self → Self.Input → Self → Type 0 };
 
     /// Opens the file of this name. `NoMemory` where memory ran out, `File` where it cannot be opened for any other

@@ -18,7 +18,7 @@ use std::io::{Read, Write};
 use std::sync::Wait;
 use std::thread::Threads;
 
-/// Prints on the error writer that a file or memory failed. Returns the status.
+/// Prints on the error output that a file failed or memory ran out. Returns the status.
 pub fn fail<E: Write>(fault: InputFault, error: &mut E) -> u8
     ensures { Failed fault (E.contents error.old) (E.contents error.new) result }
 {

@@ -61,7 +61,7 @@ fn judge_served(alloc: Global, grid: &Grid, chapter: &Chapter) -> Result<(), All
     }
 }
 
-/// The answer for a serve that ended: its trace, which is first judged on the map.
+/// The answer to a serve that ended: its trace, once it is judged on the map.
 fn served_text(alloc: Global, grid: &Grid, served: &Served) -> Result<Said, AllocError>
     ensures legal { IfOk result (λ s. IsLegal grid.now (history_of served.now.last.chapter)) }
     ensures said { IfOk result (λ s. said s ≡ limited (nat_lt 0 served.now.lane_full) (trace_text (trace_of served.now.last.chapter) ++ codes "\n")) }

@@ -20,7 +20,7 @@ use std::thread::Threads;
 /// The status of words that name no job.
 const BAD_WORDS: u8 = 2;
 
-/// Prints on the error writer why words name no job. Returns the status: 2, or 7 where memory ran out.
+/// Prints on the error output why words name no job. Returns the status: 2, or 7 if memory ran out.
 pub fn refuse_words<E: Write>(fault: &WordFault, error: &mut E) -> u8
     ensures { Refuses fault.now (E.contents error.old) (E.contents error.new) result }
 {

@@ -124,7 +124,7 @@ pub(crate) fn said_of_answer(alloc: Global, answer: PlanAnswer) -> Result<Said, 
     }
 }
 
-/// The answer with what is said first of a line whose key is like one that says something.
+/// The answer, after a line about a key that is like one that counts, if there is such a key.
 fn noted(alloc: Global, found: Option<Misspelt>, said: Said) -> Result<Said, AllocError>
     ensures { IfOk result (λ s. said_of s ≡ noted found (said_of said)) }
 {

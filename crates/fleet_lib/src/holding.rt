@@ -19,7 +19,7 @@ use fleet_text::program_kit;
 use std::alloc::{Alloc, Global};
 use std::io::{Read, Write};
 
-/// The end of a conversation whose head named the fleet, as one whose fleet might have gone on.
+/// How a conversation ended whose head named the fleet, as a result of `resume`.
 fn broken_off(ended: Result<bool, TalkFault>) -> Result<bool, ResumeFault>
     ensures { result ≡ broken_off ended }
 {
@@ -67,7 +67,7 @@ fn hold_with_hooks<R: Alloc<A = Global>, I: Read, W: Write, S: ChapterSink>(
     hold_on(rt, Ground { grid, kit, head }, kept, settings, ends)
 }
 
-/// The end of a conversation with a chapter, as one whose chapter was to come from a file.
+/// How a conversation ended, as one whose chapter was to come from a file.
 fn kept_end(ended: Result<bool, ResumeFault>) -> Result<bool, KeptFault>
     ensures { result ≡ kept_end ended }
 {

@@ -131,7 +131,7 @@ fn is_memory(fault: KeptFault) -> bool
     )
 }
 
-/// What is said of a fault on the map: where the chapter is not legal, what `explain_trace` says.
+/// The reason to print for a fault: for a chapter that is not legal, the sentence of `explain_trace`.
 fn reason_of(alloc: Global, map: &[u8], text: &[u8], fault: KeptFault) -> Result<Reason, AllocError>
     ensures { IfOk result (λ reason. IsReasonOf map.now text.now fault reason) }
 {

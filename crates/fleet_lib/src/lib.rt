@@ -1,4 +1,5 @@
-//! What the program `fleet` says to the files of a job, over any readers and writers. Each word has a file of its own.
+//! Does what the program `fleet` does, with any readers and writers. Each word of the command line has a file of its
+//! own.
 #![tactic(auto)]
 
 mod check;

@@ -29,7 +29,7 @@ enum BadWord {
     Period,
     Tickers,
     KeepEvery,
-    /// No folder is named in which chapters are kept so often.
+    /// `--keep-every` without a folder to keep chapters in.
     NoFolder,
     Pipes,
     /// A pipe is named twice.

@@ -7,9 +7,9 @@ use std::mem;
 use std::sync::{Condvar, CondvarTimeouts, Mutex, Wait};
 use std::time::{Clock, Duration};
 
-/// A request of a conversation, and the mark of its answer.
+/// A request of a conversation, and the mark under which it is answered.
 #[derive(Drop)]
-pub(crate) struct Wish {
+pub(crate) struct Request {
     pub(crate) place: usize,
     pub(crate) mark: Option<Vec<u8>>,
     pub(crate) wanted: Wanted,
@@ -20,7 +20,7 @@ pub(crate) struct Wish {
 pub(crate) enum Call {
     Nothing,
     Stop(Stop),
-    Grant(Wish),
+    Grant(Request),
     /// Judge what was posted.
     Settle,
     Tell,
@@ -33,7 +33,7 @@ pub(crate) enum Call {
 /// Requests that are not done yet.
 #[derive(Drop)]
 struct Asks {
-    wishes: VecDeque<Wish>,
+    requests: VecDeque<Request>,
     stop: Option<Stop>,
     settle: bool,
     tell: bool,
@@ -47,7 +47,7 @@ impl Asks {
     /// Whether nothing is asked.
     fn is_quiet(&self) -> bool {
         self.stop.is_none()
-            && self.wishes.is_empty()
+            && self.requests.is_empty()
             && !self.settle
             && !self.tell
             && !self.show
@@ -67,8 +67,8 @@ impl Asks {
             self.hand_out = false;
             return Call::HandOut;
         }
-        if let Some(wish) = self.wishes.pop_front() {
-            return Call::Grant(wish);
+        if let Some(request) = self.requests.pop_front() {
+            return Call::Grant(request);
         }
         if self.settle {
             self.settle = false;
@@ -82,7 +82,7 @@ impl Asks {
     }
 }
 
-/// The keeper's bell.
+/// The keeper's bell: conversations leave their requests here, and the keeper does them between two turns.
 #[derive(Drop)]
 pub(crate) struct Bell {
     asks: Mutex<Asks>,
@@ -93,7 +93,7 @@ impl Bell {
     pub(crate) fn new(alloc: Global) -> Bell {
         Bell {
             asks: Mutex::new(Asks {
-                wishes: VecDeque::new(alloc),
+                requests: VecDeque::new(alloc),
                 stop: None,
                 settle: false,
                 tell: false,
@@ -105,11 +105,11 @@ impl Bell {
         }
     }
 
-    /// Asks for something, which is answered.
-    pub(crate) fn ask<R: Wait>(&self, rt: &R, wish: Wish) -> Result<(), AllocError> {
+    /// Leaves a request that the keeper answers.
+    pub(crate) fn ask<R: Wait>(&self, rt: &R, request: Request) -> Result<(), AllocError> {
         let mut held = self.asks.lock(rt);
         let asks = &mut *held;
-        let done = match asks.wishes.push_back(wish) {
+        let done = match asks.requests.push_back(request) {
             Ok(()) => Ok(()),
             Err(_) => Err(AllocError),
         };
@@ -200,7 +200,7 @@ impl Bell {
         asks.next()
     }
 
-    /// Waits until something is to be done, for so long at most.
+    /// Waits until something is to be done, but no longer than this.
     pub(crate) fn wait_for<R: Wait + Clock>(&self, rt: &R, time: Duration) -> Call {
         let (mut held, _result) = self
             .rung

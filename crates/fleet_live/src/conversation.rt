@@ -10,7 +10,7 @@ use std::mem;
 use std::sync::atomic::{AtomicU64, Ordering};
 use std::sync::{Arc, Condvar, Mutex, Wait};
 
-/// The clients of a conversation: from the first number on, before the end.
+/// The clients of a conversation: those with numbers from `first` on, below `end`.
 #[derive(Clone, Copy)]
 pub(crate) struct Clients {
     pub(crate) first: usize,
@@ -58,8 +58,8 @@ impl<N: OfficeName<Global>> Conversation<N> {
         }
     }
 
-    /// Posts an order and answers, and returns whether it was posted. No verdict stands before that answer, since both
-    /// are said while the guests are held.
+    /// Posts an order and says so, or why it was refused. Returns whether it was posted. The guests stay locked until
+    /// that is said, so the order's verdict comes later.
     pub(crate) fn post<R: Wait>(
         &self,
         rt: &R,
@@ -96,25 +96,25 @@ impl<N: OfficeName<Global>> Conversation<N> {
         self.voice.tell_all(rt, alloc, guests)
     }
 
-    /// Takes the guests home.
+    /// Takes the guests out, when the fleet has ended.
     pub(crate) fn take_guests<R: Wait>(&self, rt: &R, alloc: Global) -> Vec<Guest<N>> {
         let mut held = self.guests.lock(rt);
         let guests = &mut *held;
         mem::replace(guests, Vec::new(alloc))
     }
 
-    /// Says whether tick lines are said from now on.
+    /// Turns the printing of tick lines on or off.
     pub(crate) fn watch(&self, on: bool) {
         self.watching
             .store(if on { 1 } else { 0 }, Ordering::SeqCst);
     }
 
-    /// Whether tick lines are said.
+    /// Whether tick lines are printed.
     pub(crate) fn is_watching(&self) -> bool {
         self.watching.load(Ordering::SeqCst) != 0
     }
 
-    /// Notes that the keeper granted a wish.
+    /// Notes that the keeper granted a request.
     pub(crate) fn note_grant<R: Wait>(&self, rt: &R) {
         let mut held = self.granted.lock(rt);
         let granted = &mut *held;
@@ -123,7 +123,7 @@ impl<N: OfficeName<Global>> Conversation<N> {
         self.answered.notify_all();
     }
 
-    /// Waits until the keeper granted this many wishes.
+    /// Waits until the keeper granted this many requests.
     pub(crate) fn wait_for_grant<R: Wait>(&self, rt: &R, count: u64) {
         let held = self
             .answered

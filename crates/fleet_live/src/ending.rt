@@ -53,8 +53,8 @@ fn clients_home<N: OfficeName<Global>, R: Alloc<A = Global> + Wait>(
     }
 }
 
-/// Hands out the chapter, and keeps it after those that wait, or lets it wait. The error where it is the last is that a
-/// limit was met.
+/// Hands out the chapter, and keeps it after those that wait; if one cannot be kept, it waits too. The last chapter
+/// cannot be handed out: `Stop::Limit`.
 fn hand_out<N: OfficeName<Global>, R: Wait, S: ChapterSink>(
     rt: &R,
     office: &Office<N>,

@@ -1,6 +1,6 @@
-//! What the keeper answers to what conversations wish.
+//! How the keeper answers requests of conversations.
 
-use crate::bell::Wish;
+use crate::bell::Request;
 use crate::keeper::{Keeper, Turned};
 use crate::stage::{Round, Work};
 use fleet_core::{ChapterFault, ShutFault, TickFault};
@@ -25,7 +25,7 @@ impl<N: OfficeName<Global>, S: ChapterSink> Keeper<'_, N, S> {
             || (made.saturating_add(1) >= SURE_TURNS && self.stage.bell.has_quit(rt))
     }
 
-    /// Makes this many turns, at least one, or fewer where `quit` was read. The result is the answer's line.
+    /// Makes this many turns, at least one, or fewer if `quit` was read. Returns the line of the answer.
     fn tick_line<R: Alloc<A = Global> + Wait>(
         &self,
         rt: &R,
@@ -52,7 +52,7 @@ impl<N: OfficeName<Global>, S: ChapterSink> Keeper<'_, N, S> {
         Ok(tick_line(alloc, work.made.tick(), work.made.placement())?)
     }
 
-    /// Hands out the chapter and keeps it. The result is the answer's line.
+    /// Hands out the chapter and keeps it. Returns the line of the answer.
     fn chapter_line<R: Alloc<A = Global> + Wait>(
         &self,
         rt: &R,
@@ -74,7 +74,7 @@ impl<N: OfficeName<Global>, S: ChapterSink> Keeper<'_, N, S> {
         Ok(chapter_line(alloc, number, entries)?)
     }
 
-    /// Shuts a robot, in the next chapter where this one is full. The result is the answer's line.
+    /// Shuts a robot; if the chapter is full, in the next one. Returns the line of the answer.
     fn shut_line<R: Alloc<A = Global> + Wait>(
         &self,
         rt: &R,
@@ -103,7 +103,7 @@ impl<N: OfficeName<Global>, S: ChapterSink> Keeper<'_, N, S> {
         Ok(open_text(rt.alloc(), client, &errands)?)
     }
 
-    /// What a wish is answered.
+    /// The answer to a request.
     fn answer<R: Alloc<A = Global> + Wait>(
         &self,
         rt: &R,
@@ -128,19 +128,19 @@ impl<N: OfficeName<Global>, S: ChapterSink> Keeper<'_, N, S> {
         }
     }
 
-    /// Grants a wish.
+    /// Grants a request.
     pub(crate) fn grant<R: Alloc<A = Global> + Wait>(
         &self,
         rt: &R,
         round: &mut Round,
         work: &mut Work<N>,
-        wish: Wish,
+        request: Request,
     ) -> Result<(), Stop> {
-        let Wish {
+        let Request {
             place,
             mark,
             wanted,
-        } = wish;
+        } = request;
         let text = self.answer(rt, round, work, wanted)?;
         let Some(one) = self.stage.conversations.get(place) else {
             return Ok(());

@@ -1,6 +1,6 @@
 //! What a conversation's lines ask, line by line.
 
-use crate::bell::{Bell, Wish};
+use crate::bell::{Bell, Request};
 use crate::conversation::Conversation;
 use crate::inbox::Inbox;
 use fleet_book::Order;
@@ -34,8 +34,8 @@ struct Hearing<'a, N: OfficeName<Global>> {
     bell: &'a Bell,
     /// Whether turns come by themselves.
     paced: bool,
-    /// How many wishes it had.
-    wishes: u64,
+    /// How many requests it sent to the keeper.
+    requests: u64,
 }
 
 impl<'a, N: OfficeName<Global>> Hearing<'a, N> {
@@ -44,7 +44,7 @@ impl<'a, N: OfficeName<Global>> Hearing<'a, N> {
             here,
             bell,
             paced,
-            wishes: 0,
+            requests: 0,
         }
     }
 
@@ -63,14 +63,14 @@ impl<'a, N: OfficeName<Global>> Hearing<'a, N> {
         let place = self.here.place;
         self.bell.ask(
             rt,
-            Wish {
+            Request {
                 place,
                 mark,
                 wanted,
             },
         )?;
-        self.wishes = self.wishes.saturating_add(1);
-        self.here.wait_for_grant(rt, self.wishes);
+        self.requests = self.requests.saturating_add(1);
+        self.here.wait_for_grant(rt, self.requests);
         Ok(())
     }
 

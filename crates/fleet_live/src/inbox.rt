@@ -25,7 +25,7 @@ struct Tray {
     end: Option<Stop>,
 }
 
-/// Lines that one thread reads and another does.
+/// Lines that one thread reads from the input, and another takes to do what they ask.
 #[derive(Drop)]
 pub(crate) struct Inbox {
     tray: Mutex<Tray>,

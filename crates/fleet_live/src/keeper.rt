@@ -17,7 +17,7 @@ use std::sync::Wait;
 /// How many chapters one turn may need at most: each has room for an order of each client.
 const MOST_CHAPTERS: u32 = 65_536;
 
-/// What a turn came to.
+/// The result of a turn.
 #[derive(Clone, Copy, Debug, PartialEq, Eq)]
 pub(crate) enum Turned {
     Made,
@@ -153,7 +153,7 @@ impl<N: OfficeName<Global>, S: ChapterSink> Keeper<'_, N, S> {
         Ok(())
     }
 
-    /// Makes a turn, in the next chapter where this one is full.
+    /// Makes a turn; if the chapter is full, in the next one.
     fn make_turn<R: Alloc<A = Global> + Wait>(
         &self,
         rt: &R,
@@ -264,7 +264,7 @@ impl<N: OfficeName<Global>, S: ChapterSink> Keeper<'_, N, S> {
         match call {
             Call::Nothing => Ok(()),
             Call::Stop(stop) => Err(stop),
-            Call::Grant(wish) => self.grant(rt, round, work, wish),
+            Call::Grant(request) => self.grant(rt, round, work, request),
             Call::Settle => self.settle(rt, round, work),
             Call::Tell => Ok(self.tell_all(rt, &mut round.due)?),
             Call::Show => Ok(self.show_figures(rt, round)?),

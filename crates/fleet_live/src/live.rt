@@ -53,7 +53,7 @@ struct Opening {
 }
 
 impl Opening {
-    /// These parts.
+    /// An opening of these parts.
     fn of(desk: Desk, limits: Limits, grid: Grid, starts: Vec<u32>, hooks: Hooks) -> Opening
         requires { 0 ≤ vec_len hooks.ties }
         ensures desk { result.desk ≡ desk }
@@ -71,7 +71,7 @@ impl Opening {
         }
     }
 
-    /// What is known of the fleet besides who talks to it.
+    /// The site of the fleet.
     fn site(&self, alloc: Global, settings: LiveSettings) -> Site {
         Site {
             settings,

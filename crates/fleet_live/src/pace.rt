@@ -20,7 +20,7 @@ const MOST_MICROS: u64 = 2_000_000_000_000_000_000;
 /// The microseconds of a minute.
 const MINUTE: u64 = 60_000_000;
 
-/// A duration in microseconds, at most the greatest number that can be counted.
+/// The microseconds, or the greatest number of them that is counted.
 fn told_apart(micros: u64) -> u64
     ensures { result < 2 ^ 62 }
 {
@@ -73,7 +73,7 @@ impl Deadlines {
     }
 }
 
-/// Says the counts of the time since the last line, where a minute went by, and how long robots wait.
+/// If a minute went by since the last line of counts, says the next: what was counted, and how long robots wait.
 fn say_counts<N: OfficeName<Global>, R: Alloc<A = Global> + Wait, S: ChapterSink>(
     rt: &R,
     keeper: &Keeper<'_, N, S>,
@@ -93,9 +93,9 @@ fn say_counts<N: OfficeName<Global>, R: Alloc<A = Global> + Wait, S: ChapterSink
     Ok(())
 }
 
-/// Does what is to be done at once: says the figures, hands out the chapter, grants one wish of each conversation at
-/// most, and judges once what was posted. So none of them holds up the turns, and turns that are all late hold up none
-/// of them.
+/// Does what waits to be done: shows the figures, hands out the chapter, grants at most one request of each
+/// conversation, and judges once what was posted. So requests delay no turn for long, and are done even if each turn is
+/// late.
 fn heed_some<N: OfficeName<Global>, R: Alloc<A = Global> + Wait, S: ChapterSink>(
     rt: &R,
     keeper: &Keeper<'_, N, S>,
@@ -116,7 +116,7 @@ fn heed_some<N: OfficeName<Global>, R: Alloc<A = Global> + Wait, S: ChapterSink>
     Ok(())
 }
 
-/// Makes a turn that is due, says the counts, and does what is to be done at once. The result has the next deadlines.
+/// Makes a turn that is due, says the counts, and does what waits to be done. Returns the next deadlines.
 fn turn_now<N: OfficeName<Global>, R: Alloc<A = Global> + Clock + Wait, S: ChapterSink>(
     rt: &R,
     keeper: &Keeper<'_, N, S>,
@@ -139,8 +139,8 @@ fn turn_now<N: OfficeName<Global>, R: Alloc<A = Global> + Clock + Wait, S: Chapt
     heed_some(rt, keeper, round, work)
 }
 
-/// Makes a turn where it is due. Else searches ahead where that is to be done, or waits for the deadline or for
-/// something that is to be done. Without deadlines it waits for that alone.
+/// Makes a turn if one is due; else searches ahead, if fields are to be searched, or waits for the deadline or for a
+/// request. Without deadlines it waits for a request.
 fn step<
     N: OfficeName<Global>,
     R: Alloc<A = Global> + Clock + Threads + Sync + Wait,
@@ -184,7 +184,7 @@ fn step_on<
     unreachable!()
 }
 
-/// Why the fleet stops, where it is to stop or chapters cannot be kept. At the end those that wait are tried once more.
+/// Why the fleet stops, if it is to stop or chapters cannot be kept. At the end those that wait are tried once more.
 fn stopped(stepped: Result<(), Stop>, kept: Result<(), Stop>) -> Result<(), Stop> {
     match (stepped, kept) {
         (Ok(()), kept) => kept,

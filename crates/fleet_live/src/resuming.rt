@@ -24,7 +24,7 @@ use std::sync::Wait;
 use std::thread::Threads;
 use std::time::Clock;
 
-/// What is known of a fleet whose world goes on, besides who talks to it.
+/// The site of a fleet whose world goes on.
 fn site_of(
     alloc: Global,
     world: &World,
@@ -44,7 +44,7 @@ fn site_of(
     })
 }
 
-/// The world that goes on from a chapter, which is let go.
+/// The world that goes on from a chapter. The chapter is dropped.
 fn world_on(alloc: Global, ground: Ground, chapter: Chapter) -> Result<World, ResumeFault>
     // Of each call: only a call with a condition may hand on closures that another crate hands out.
     requires { 0 ≤ vec_len ground.kit.plain.ties }
@@ -98,7 +98,7 @@ fn keep_world<
     keep_office(rt, office, clients, ticker, site, ends)
 }
 
-/// What a fleet goes on with: the lanes of its clients, and what is known of it besides.
+/// The lanes and the site of a fleet that goes on.
 fn ready(
     alloc: Global,
     world: &World,

@@ -22,10 +22,11 @@ use std::sync::{Arc, Mutex, Wait};
 use std::thread::{JoinHandle, Threads};
 use std::time::Clock;
 
-/// From this many cells on fields are searched between turns: a turn does few others sooner than it would find them.
+/// From this many cells on fields are searched between turns. On a smaller map a turn searches a field sooner than it
+/// would look through those that are kept.
 const LARGE: u32 = 65_536;
 
-/// For how many goals fields are kept that no robot needs now: those of two for each robot of the greatest fleet.
+/// How many fields are kept of goals that no robot has any more: two for each robot of the largest fleet.
 const KEPT_GOALS: usize = 1024;
 
 /// The bytes of such fields, at least and at most: 64 MiB and 256 MiB.
@@ -33,7 +34,7 @@ const LEAST_KEPT: usize = 64 << 20;
 
 const MOST_KEPT: usize = 256 << 20;
 
-/// What clients' threads and tickers leave.
+/// What is left when the fleet has stopped.
 #[derive(Drop)]
 pub(crate) struct Left<N: OfficeName<Global>, S> {
     pub(crate) stage: Stage<N, S>,
@@ -43,7 +44,7 @@ pub(crate) struct Left<N: OfficeName<Global>, S> {
     pub(crate) stop: Stop,
 }
 
-/// What a fleet is, besides who talks to it.
+/// What there is to know of a fleet, besides who talks to it.
 #[derive(Drop)]
 pub(crate) struct Site {
     pub(crate) settings: LiveSettings,

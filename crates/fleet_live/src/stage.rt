@@ -17,7 +17,7 @@ use std::sync::{Arc, Mutex, Wait};
 /// The microseconds of a second.
 const SECOND: u64 = 1_000_000;
 
-/// What passes from the ticker that keeps the fleet to the one that keeps it next.
+/// What the ticker that keeps the fleet hands on to the one that keeps it next.
 #[derive(Drop)]
 pub(crate) struct Round {
     /// When turns are due, where they come by themselves.
@@ -86,7 +86,7 @@ impl Round {
     }
 }
 
-/// What the tickers share beside the office.
+/// What the tickers share, besides the office.
 #[derive(Drop)]
 pub(crate) struct Stage<N: OfficeName<Global>, S> {
     pub(crate) conversations: Vec<Arc<Conversation<N>>>,

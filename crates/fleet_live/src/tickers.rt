@@ -57,7 +57,7 @@ fn work_both<
     )
 }
 
-/// Why two tickers stopped. The one that was told to stop by the other says less.
+/// Why the fleet stopped, by the reasons of its two tickers: a failure counts before `Quit` and `Limit`.
 fn why(first: Stop, second: Stop) -> Stop {
     match first {
         Stop::Quit | Stop::Limit => second,
@@ -65,7 +65,7 @@ fn why(first: Stop, second: Stop) -> Stop {
     }
 }
 
-/// The tickers that came home, and why they stopped. There is room for them.
+/// The tickers after their work, and why they stopped. There is room for them.
 fn home_of<N: OfficeName<Global>>(
     tickers: Vec<Ticker<N>>,
     first: Done<N>,

@@ -15,7 +15,7 @@ pub(crate) struct Voice {
     outbox: Mutex<Outbox>,
     /// Signalled when there is something to write, or when nothing will follow.
     filled: Condvar,
-    /// Signalled when everything that waited is being written, or cannot be written.
+    /// Signalled when the waiting text was taken by the writer, or cannot be written.
     drained: Condvar,
 }
 
@@ -143,7 +143,7 @@ impl Voice {
         self.drained.notify_all();
     }
 
-    /// Waits for something to write, and takes it. `None` if nothing will follow.
+    /// Waits for text, and takes all of it. It stays empty if nothing will follow.
     fn take<R: Wait>(&self, rt: &R, text: &mut Vec<u8>) {
         let mut held = self.filled.wait_while(rt, self.outbox.lock(rt), |outbox| {
             !outbox.ended && outbox.text.is_empty()

@@ -50,7 +50,7 @@ pub enum ConcludeFault {
     NoMemory,
 }
 
-/// What is returned, for another call.
+/// What `conclude` returns of an office that is not concluded, for another call.
 #[derive(Drop)]
 pub struct Home<N: OfficeName<A>, A: Allocator + Copy = Global> {
     pub office: Office<N, A>,
@@ -60,7 +60,7 @@ pub struct Home<N: OfficeName<A>, A: Allocator + Copy = Global> {
     pub tickers: Vec<Ticker<N>, A>,
 }
 
-/// The result of an office.
+/// What is left of an office that is concluded.
 #[derive(Drop)]
 pub struct Final<A: Allocator + Copy = Global> {
     pub grid: Grid<A>,
@@ -73,7 +73,7 @@ pub struct Final<A: Allocator + Copy = Global> {
 }
 
 impl<N: OfficeName<A>, A: Allocator + Copy> HallState<N, A> {
-    /// Whether all clients are here, and tickers that together made all ticks.
+    /// Whether all clients were handed in, and tickers that together made all ticks.
     fn see_home(
         &mut self,
         clients: &[Client<A>],
@@ -161,7 +161,7 @@ impl<N: OfficeName<A>, A: Allocator + Copy> HallState<N, A> {
 }
 
 impl<N: OfficeName<A>, A: Allocator + Copy> Hall<N, A> {
-    /// The hall's end: takes every order that is left in the lanes, and hands out the map, the chapter and what the
+    /// Concludes the hall: takes every order that is left in the lanes, and returns the map, the chapter and what the
     /// clients had not collected. It makes no tick.
     pub fn conclude(
         self,

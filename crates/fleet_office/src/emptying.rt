@@ -16,7 +16,7 @@ use fleet_lanes::Client;
 use std::alloc::Allocator;
 
 impl<N: OfficeName<A>, A: Allocator + Copy> HallState<N, A> {
-    /// Looks at the client's rings next to the hall's own ends. Returns how many orders are left in the lane.
+    /// Compares the client's rings with the hall's ends of them. Returns how many orders are left in the lane.
     fn beside(&mut self, client: &mut Client<A>) -> usize
         requires { slice_get N.rings client.old.number ≡ Some client.old.lane }
         ensures client { core client.new ≡ core client.old }

@@ -1,4 +1,4 @@
-//! An office over a world that is there already.
+//! An office over a world that was opened before.
 
 ghost use Rattle.std.specs.Prelude.{◌≡◌, length};
 ghost use Rattle.fleet_history.specs.History.{clients, clock};
@@ -17,8 +17,8 @@ use std::alloc::Allocator;
 use std::sync::Mutex;
 
 impl<N: OfficeName<A>, A: Allocator + Copy> Hall<N, A> {
-    /// The hall over the desk's lanes, of a world that is at the beginning of a chapter, its clients, and a ticker that
-    /// has all parts of the ledger, and made all ticks so far. `Office::over` says which worlds these are.
+    /// The hall over the desk's lanes and a world at the beginning of a chapter, its clients, and a ticker that has all
+    /// parts of the ledger and made all ticks so far. `Office::over` says which worlds these are.
     pub fn over(desk: Desk<A>, world: World<A>) -> (Hall<N, A>, Vec<Client<A>, A>, Ticker<N>)
         requires named { IsNamed desk N.name N.parts N.rings }
         requires start { N.start ≡ world.core }

@@ -14,7 +14,7 @@ use std::sync::Wait;
 /// How many turns may be made until the lanes are empty.
 const MOST_TURNS: u32 = 1_000_000;
 
-/// Why a serve ends with this fault of a turn.
+/// The fault of a serve for the cause for which a turn ended early.
 fn fault_of(cause: TurnCause) -> ServeFault
     ensures value { result ≡ fault_of cause }
     ensures later { IsLater result }

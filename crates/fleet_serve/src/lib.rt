@@ -1,4 +1,4 @@
-//! `serve`: a script's clients and two tickers at one office, each in a thread of its own, and what it came to.
+//! `serve`: a script's clients and two tickers work at one office, each in a thread of its own.
 #![tactic(auto)]
 
 mod draining;

@@ -123,7 +123,7 @@ fn wind_down<N: ScriptName, R: Alloc<A = Global> + Wait>(
     }
 }
 
-/// The drained office, concluded by the clients and the tickers that came home.
+/// Concludes the drained office with its clients and tickers.
 fn conclude<N: ScriptName, R: Alloc<A = Global> + Wait>(
     rt: &R,
     office: Office<N>,

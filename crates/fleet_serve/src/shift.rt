@@ -30,7 +30,8 @@ fn is_of(event: Event, number: u32) -> bool {
     }
 }
 
-/// Runs a line, if it is the client's, which asks the gate first. The result counts the posts that met a full lane.
+/// Runs a line if it is the client's, after asking the gate. Returns the count of posts that met a full lane, with this
+/// one.
 fn run_line<N: ScriptName, G: Gate>(
     guest: &mut Guest<N>,
     event: Event,

@@ -1,6 +1,6 @@
 //! A run, chapter by chapter and entry by entry.
 
-ghost use Rattle.std.specs.Prelude.{◌≡◌, ◌↔◌, ◌+◌, ◌^◌, ◌≤◌, length, map, IsTrue, IfOk, IfErr, OnOk};
+ghost use Rattle.std.specs.Prelude.{◌≡◌, map, IfOk, IfErr, OnOk};
 ghost use Rattle.fleet_grid.specs.Floor.{Floor};
 ghost use Rattle.fleet_history.specs.History.{history_of, start, with_entries};
 ghost use Rattle.fleet_trace.specs.Trace.{trace_of};
@@ -16,7 +16,7 @@ use crate::notes::{Notes, blank, note};
 use fleet_grid::Grid;
 use fleet_history::{Chapter, Entry, Opening, RobotState};
 use fleet_state::FleetState;
-use fleet_trace::{JudgeFault, judge};
+use fleet_trace::{JudgeFault, is_early, judge};
 use std::alloc::{AllocError, Global};
 
 /// Records the entries that follow an opening; the state is that at the opening.
@@ -55,17 +55,6 @@ fn follow_chapter(
     Ok(())
 }
 
-/// Whether the clock could come to 2^63.
-fn is_late(chapter: &Chapter) -> bool
-    ensures { IsTrue result ↔ (2 ^ 63 ≤ chapter.now.opening.tick + length chapter.now.entries.items) }
-{
-    let most = chapter
-        .opening
-        .tick
-        .saturating_add(chapter.entries.len() as u64);
-    most >= 9_223_372_036_854_775_808
-}
-
 /// Whether the chapter of this number may be followed: its clock, and the judge's verdict.
 fn check_chapter(
     alloc: Global,
@@ -76,7 +65,7 @@ fn check_chapter(
     ensures sound { OnOk result (IsSound grid.now (history_of chapter.now)) }
     ensures fault { IfErr result (λ fault. IsUnsound grid.now number (history_of chapter.now) fault) }
 {
-    if is_late(chapter) {
+    if !is_early(chapter) {
         return Err(StatsFault::Late(number));
     }
     match judge(alloc, grid, chapter) {

@@ -31,7 +31,7 @@ pub enum Asked {
     Long,
 }
 
-/// A line: its number from 1, its mark, what follows that, and what this asks.
+/// A line: its number, from 1; its mark; the text after the mark; and what this asks.
 #[derive(Clone, Copy)]
 pub struct Line<'a> {
     pub number: u64,

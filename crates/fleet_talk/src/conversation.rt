@@ -96,7 +96,7 @@ fn keep_last<S: ChapterSink>(
     Ok(limited)
 }
 
-/// Lets a fleet go whose conversation ended so, and keeps its last chapter. Returns whether a limit was met.
+/// Ends the fleet after its conversation, and keeps its last chapter. Returns whether a limit was met.
 pub(crate) fn close<S: ChapterSink>(
     fleet: OpenFleet,
     sink: &mut S,

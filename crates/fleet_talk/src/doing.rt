@@ -1,4 +1,4 @@
-//! What a line asks of an open fleet, done once. Nothing here reads, writes or keeps.
+//! Does once what a line asks of an open fleet. Nothing here reads, writes or keeps chapters.
 
 ghost use Rattle.std.specs.Prelude.{◌≡◌, ◌≤◌, ℕ, List, OnOk, OnErr, IfOk};
 ghost use Rattle.fleet_talk.specs.Act.{act_asked, show, times_asked, turn};
@@ -52,7 +52,7 @@ fn list(
     pen.say(alloc, mark, lines.as_str())
 }
 
-/// Hands out the chapter, which is still to be said, or says that it is the last.
+/// Hands out the chapter, and says nothing yet. If it is the last, it says that instead.
 fn turn(
     alloc: Global,
     fleet: &mut OpenFleet,

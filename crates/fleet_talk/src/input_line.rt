@@ -1,4 +1,4 @@
-//! One line.
+//! Reads one line, in bounded memory.
 
 ghost use Rattle.std.specs.Prelude.{◌≡◌, ◌+◌, ◌≤◌, ◌<◌, ◌↔◌, ◌^◌, length, take, IsTrue, IfOk, OnOk, IfSome, vec_len};
 ghost use Rattle.std.specs.Io.BufRead.{first_piece, DropsThrough};

@@ -1,4 +1,4 @@
-//! Events and chapters of a conversation. Nothing here reads, writes or keeps.
+//! Events and chapters of a conversation. Nothing here reads, writes or keeps chapters.
 
 ghost use Rattle.std.specs.Prelude.{◌≡◌, ◌≤◌, ℕ, List, length, OnOk, OnErr, IfOk};
 ghost use Rattle.fleet_text.specs.Output.{event_text};
@@ -112,7 +112,7 @@ pub(crate) fn play_here<R: Alloc<A = Global>>(
     }
 }
 
-/// `turned`, which may have said that the chapter was handed out where the event itself fails.
+/// As `turned`, but where memory runs out, part of the answer may have been said.
 fn tell_turned<R: Alloc<A = Global>>(
     rt: &R,
     fleet: &mut OpenFleet,

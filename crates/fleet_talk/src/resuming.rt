@@ -76,7 +76,8 @@ fn clients_named(head: &Head) -> Option<usize>
     }
 }
 
-/// What header lines say that is not so in a chapter that begins so: first the number of robots, then that of clients.
+/// Where header lines disagree with a chapter that has this opening: in the number of robots, or else in that of
+/// clients. `None` if they agree.
 pub fn disagreement(head: &Head, opening: &Opening) -> Option<ResumeFault>
     ensures { result ≡ disagreement (drafted head.now) opening.now }
 {
@@ -89,7 +90,8 @@ pub fn disagreement(head: &Head, opening: &Opening) -> Option<ResumeFault>
     }
 }
 
-/// The limits that header lines give, then those of a chapter that begins so, then a conversation's own.
+/// The limits of a fleet that goes on from a chapter with this opening: those that header lines name; else, of `queue`
+/// and `life`, those of the chapter; else those of any conversation.
 pub fn limits_after(head: &Head, opening: &Opening) -> Limits
     ensures { result ≡ limits_after (drafted head.now) opening.now }
 {
@@ -112,8 +114,8 @@ fn has_stamps(opening: &Opening) -> bool
         .any(|robot| robot.farewell_law.high > 0)
 }
 
-/// The closures that header lines choose, one for each robot of a chapter that begins so. Where they do not choose, the
-/// plain ones, if each farewell of this chapter has the stamp 0, and else the southern ones.
+/// The hooks that header lines choose, for each robot of a chapter with this opening. If they choose none: the plain
+/// ones if each farewell of the chapter has the stamp 0, and else the southern ones.
 pub fn hooks_after(kit: HookKit, head: &Head, opening: &Opening) -> Hooks
     // Of each call: only a call with a condition may hand on closures that another crate hands out.
     requires { 0 ≤ vec_len kit.plain.ties }

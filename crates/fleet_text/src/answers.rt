@@ -14,7 +14,7 @@ use fleet_lanes::PostFault;
 use std::alloc::{AllocError, Global};
 use std::fmt::Write;
 
-/// A line of a word, which ends with its blank, and of a number.
+/// The line of a word and a number. The word ends with the blank between them.
 fn numbered_line(alloc: Global, word: &str, number: u32) -> Result<String, AllocError>
     ensures { IfOk result (λ line. string_bytes line ≡ word.now ++ decimal number ++ codes "\n") }
 {
@@ -23,21 +23,21 @@ fn numbered_line(alloc: Global, word: &str, number: u32) -> Result<String, Alloc
     Ok(line)
 }
 
-/// The line of a client that is not there.
+/// The answer where a client is named that does not exist, or for whom the conversation does not speak.
 pub fn no_client_line(alloc: Global, client: u32) -> Result<String, AllocError>
     ensures { IfOk result (λ line. string_bytes line ≡ no_client_line client) }
 {
     numbered_line(alloc, "no-client ", client)
 }
 
-/// The answer to a line that asks for nothing that can be done.
+/// The answer to a line that cannot be understood, or is not allowed where it is. Lines count from 1.
 pub fn bad_line(alloc: Global, number: u64) -> Result<String, AllocError>
     ensures { IfOk result (λ line. string_bytes line ≡ bad_line number) }
 {
     format!(in alloc; "bad-line {number}\n")
 }
 
-/// The line of an order that lies in a lane under this number.
+/// The line of an order that was posted, with its number among the client's orders.
 fn posted_line(alloc: Global, client: u32, number: u64) -> Result<String, AllocError>
     ensures { IfOk result (λ line. string_bytes line ≡ posted_line client number) }
 {

@@ -1,4 +1,4 @@
-//! A file as a whole.
+//! Reads whole files.
 
 ghost use Rattle.std.specs.Prelude.{◌≡◌, ◌≤◌, ◌<◌, ◌^◌, vec_len, IfOk, IfSome};
 ghost use Rattle.fleet_text.specs.Transfer.{bytes_of};
@@ -28,7 +28,7 @@ impl From<AllocError> for InputFault {
     }
 }
 
-/// All that the reader has, which is at most `most` bytes.
+/// Everything that the reader has. More than `most` bytes are the fault `File`.
 pub fn read_up_to<A: Allocator + Copy, R: Read>(
     alloc: A,
     reader: &mut R,
@@ -54,7 +54,7 @@ pub fn read_up_to<A: Allocator + Copy, R: Read>(
     Err(InputFault::File)
 }
 
-/// All that the reader has, which is at most 16,777,216 bytes.
+/// Everything that the reader has. More than 16,777,216 bytes are the fault `File`.
 pub fn read_whole<A: Allocator + Copy, R: Read>(
     alloc: A,
     reader: &mut R,

@@ -7,7 +7,7 @@ ghost use Rattle.fleet_text.specs.Kit.{kit_laws};
 use fleet_hooks::Hooks;
 use std::alloc::{Allocator, Global};
 
-/// The hooks of both choices, for each robot.
+/// Two sets of hooks, with those of each robot. The line `ties` of a script chooses one of them.
 #[derive(Drop)]
 pub struct HookKit<A: Allocator + Copy = Global> {
     /// Every rank, stamp and farewell is 0.

@@ -7,7 +7,7 @@ use crate::ticks::write_place;
 use std::alloc::{AllocError, Global};
 use std::fmt::Write;
 
-/// How a fleet stands, without its cells.
+/// What a look shows, besides the robots' cells.
 #[derive(Clone, Copy)]
 pub struct Standing {
     /// The ticks made.
@@ -18,7 +18,7 @@ pub struct Standing {
     pub entries: usize,
     /// The robot that has waited longest, where one has an errand.
     pub eldest: Option<u32>,
-    /// After how many ticks the fleet is idle, where that is known.
+    /// After how many ticks the fleet is idle if nothing is ordered; `None` on a map with a bridge.
     pub within: Option<u64>,
 }
 

@@ -27,7 +27,7 @@ pub fn is_limit_met(reply: Reply) -> bool
     )
 }
 
-/// The farewell that a shut robot takes at once, if it does.
+/// The line of the farewell of a robot that had no errand when it was shut; nothing if it had one.
 fn write_parting<A: Allocator + Copy>(
     out: &mut String<A>,
     robot: u32,
@@ -44,7 +44,7 @@ fn write_parting<A: Allocator + Copy>(
     }
 }
 
-/// A line of a word, which ends with its blank, and of a number.
+/// The line of a word and a number. The word ends with the blank between them.
 pub(crate) fn write_numbered<A: Allocator + Copy>(
     out: &mut String<A>,
     word: &str,
@@ -55,7 +55,7 @@ pub(crate) fn write_numbered<A: Allocator + Copy>(
     write!(out, "{word}{number}\n")
 }
 
-/// The line of an order that lies in a lane.
+/// The line of an order that was posted.
 pub(crate) fn write_posted<A: Allocator + Copy>(
     out: &mut String<A>,
     client: u32,
@@ -237,7 +237,7 @@ fn made_by(reply: Reply) -> usize
     }
 }
 
-/// The entries after the one that an event made, if its reply has one.
+/// The entries without the first, if the event with this reply made an entry.
 fn entries_after<A: Allocator + Copy>(entries: &[Entry<A>], reply: Reply) -> &[Entry<A>]
     ensures { result.now ≡ drop (entries_made reply) entries.now }
 {

@@ -43,7 +43,7 @@ impl From<InputFault> for Complaint {
 }
 
 impl Complaint {
-    /// The program's status.
+    /// The status with which the program ends.
     pub fn status(self) -> u8
         ensures { result ≡ status_of self }
     {
@@ -91,14 +91,14 @@ pub struct Said {
     pub complaint: String,
 }
 
-/// The line that the error writer is told.
+/// The line for the error output.
 pub fn line_of(alloc: Global, complaint: Complaint) -> Result<String, AllocError>
     ensures { IfOk result (λ line. string_bytes line ≡ complaint_line complaint) }
 {
     format!(in alloc; "errands: {complaint}\n")
 }
 
-/// The line that the error writer is told where a file or memory failed. It allocates nothing.
+/// The line for the error output where a file failed or memory ran out. It allocates nothing.
 pub fn failure_line(fault: InputFault) -> &'static str
     ensures { result.now ≡ complaint_line (complaint_of fault) }
 {
@@ -119,7 +119,7 @@ pub fn faulty(alloc: Global, complaint: Complaint) -> Result<Said, AllocError>
     })
 }
 
-/// The complaint of a map with this fault. Out of memory is none.
+/// The complaint about a map with this fault; an error if the fault is out of memory.
 pub fn map_complaint(fault: MapFault) -> Result<Complaint, AllocError>
     ensures named { IfOk result (λ c. IsMapNamed fault) }
     ensures value { IfOk result (λ c. c ≡ Complaint.Map fault) }

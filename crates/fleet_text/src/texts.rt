@@ -192,7 +192,7 @@ impl fmt::Display for OpenFaultText {
     }
 }
 
-/// Why a file has no trace, as the program names it.
+/// Why a file is no trace, as the program names it.
 #[derive(Clone, Copy)]
 pub(crate) struct TraceFaultText(pub(crate) TraceFault);
 

@@ -26,6 +26,7 @@ pub use due::{landings_after, verdict_after};
 use fleet_grid::Grid;
 use fleet_history::{Chapter, Entry, Opening, RobotState};
 use fleet_state::FleetState;
+pub use next::is_early;
 pub(crate) use next::opening_after;
 use opening::is_in_order;
 use rooms::rooms_of;

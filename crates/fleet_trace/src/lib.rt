@@ -11,7 +11,7 @@ mod write;
 
 pub use chapters::read_chapters;
 pub use fault::{ChaptersFault, JudgeFault, TraceFault};
-pub use judging::{judge, landings_after, verdict_after};
+pub use judging::{is_early, judge, landings_after, verdict_after};
 pub use law::{trace_reads_back, write_and_read};
 pub use read::read_trace;
 pub use version::Version;

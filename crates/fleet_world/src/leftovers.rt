@@ -24,7 +24,7 @@ impl<A: Allocator + Copy> Leftovers<A> {
         Ok(Leftovers { lanes, outlets })
     }
 
-    /// Takes apart what waits of the clients, within the room.
+    /// Moves the orders and notices that wait into the lists that were reserved for them.
     pub(crate) fn filled(self, waiting: Vec<Waiting<A>, A>) -> Leftovers<A>
         requires { HasRoomFor self (vec_len waiting) }
         ensures lanes { map (λ v. v.items) result.lanes.items ≡ map (λ w. w.lane) waiting.items }
@@ -43,7 +43,7 @@ impl<A: Allocator + Copy> Leftovers<A> {
     }
 }
 
-/// What clients collected that did nothing.
+/// An empty list for each client.
 pub(crate) fn none_collected<A: Allocator + Copy>(
     alloc: A,
     count: usize,

@@ -1,5 +1,5 @@
-//! The world of a fleet with the lanes and outlets of its clients, event by event, and the pure core that runs a list
-//! of events from its opening.
+//! A world with the lanes and outlets of its clients, on which events are done one by one (`Session`), and the run of a
+//! list of events from the opening of a world (`run`).
 #![tactic(auto)]
 
 mod faults;

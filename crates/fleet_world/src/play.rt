@@ -1,4 +1,4 @@
-//! The pure core over a list of events.
+//! A run: a list of events, done one after another from the opening of a world.
 
 ghost use Rattle.std.specs.Prelude.{◌≡◌, ◌<◌, ◌^◌, ◌↔◌, ℕ, [], Err, IfOk, IfErr, OnOk, length, map, replicate, vec_len};
 ghost use Rattle.fleet_bound.specs.Bound.{WaitsAreBounded};
@@ -30,7 +30,7 @@ use fleet_grid::Grid;
 use fleet_hooks::Hooks;
 use std::alloc::{Alloc, AllocError, Allocator, Global};
 
-/// What a run leaves, by client where a list is one of lists.
+/// What is left after a run. A list of lists has one list for each client, by number.
 #[derive(Drop)]
 pub struct Played<A: Allocator + Copy = Global> {
     pub world: World<A>,
@@ -44,12 +44,14 @@ pub struct Played<A: Allocator + Copy = Global> {
     pub replies: Vec<Reply, A>,
 }
 
-/// Plays any list of events from the opening of a world; lanes and outlets are lists, bounded by `lane` and `outlet`. A
-/// refused event changes nothing, and its reply says so; only out of memory ends the run, at the index of its event.
-/// The clause `rings` says that what was sent, taken, given and collected agrees with this chapter alone; `each_ring`
-/// says so for any chapter. `end_of` computes what was sent and taken from the history, and the clause `run` ties these
-/// to the events. Each call meets the `requires`; it is needed because no call may hand closures to another crate
-/// without it.
+/// Does a list of events, one after another, from the opening of a world. Lanes and outlets are lists, bounded by
+/// `lane` and `outlet`. A refused event changes nothing, and its reply says so; only out of memory ends the run, and
+/// names the event.
+///
+/// The clause `run` ties the replies and the chapter to the events. What was sent and taken follows from the history
+/// (`end_of`). `rings` says that what was sent, taken, given and collected agrees with this chapter; `each_ring` says
+/// so of each client for any chapter. The `requires` is met by each call; without it no call could hand closures to
+/// another crate.
 pub fn run<A: Allocator + Copy, R: Alloc<A = A>>(
     rt: &R,
     grid: Grid<A>,
@@ -133,12 +135,12 @@ fn rooms<A: Allocator + Copy>(alloc: A, clients: usize) -> Result<Rooms<A>, Allo
     Ok((leftovers, collected))
 }
 
-/// Lets a session go by its own end: a drop would be proved again here, for each type that lies in it.
+/// Ends a session by a call of its own. A drop that goes unsaid would be proved again here, for each type in it.
 fn abandon<A: Allocator + Copy>(session: Session<A>) {
     let _left = session.finish();
 }
 
-/// Plays events, one after another, and adds what is collected. Out of memory ends it at the index of its event.
+/// Does events, one after another, and adds what is collected. Out of memory ends it, and names the event.
 fn play<A: Allocator + Copy, R: Alloc<A = A>>(
     rt: &R,
     session: &mut Session<A>,

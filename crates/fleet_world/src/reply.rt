@@ -1,4 +1,4 @@
-//! What is answered to an event of a run.
+//! The reply to an event of a run.
 
 use fleet_book::{Notice, Verdict};
 use fleet_core::{ShutFault, TakeFault, TickFault, TickReport};

@@ -21,7 +21,8 @@ use fleet_history::Chapter;
 use fleet_hooks::Hooks;
 use std::alloc::{AllocError, Allocator, Global};
 
-/// A world, and what waits of each client. Its memory is bounded by the limits and the map, whatever was done before.
+/// A world, and for each client the orders that wait to be taken and the notices that wait to be collected. Its memory
+/// is bounded by the limits and the map, whatever was done before.
 #[derive(Drop)]
 pub struct Session<A: Allocator + Copy = Global> {
     pub world: World<A>,
@@ -60,10 +61,10 @@ impl<A: Allocator + Copy> Session<A> {
         }
     }
 
-    /// A session over a world that is there already, as one that goes on from a chapter that was kept. Nothing waits of
-    /// its clients.
+    /// A session over a world that was opened before, for example one that goes on from a chapter that was kept. No
+    /// order and no notice waits.
     ///
-    /// Refused out of memory alone; the world is let go then.
+    /// The only fault is out of memory; the world is dropped then.
     pub fn over(alloc: A, world: World<A>) -> Result<Session<A>, AllocError>
         // Of each call: the checker lets closures come from another crate only in a call with a `requires`.
         requires { 0 ≤ world.core.number }
@@ -96,7 +97,7 @@ impl<A: Allocator + Copy> Session<A> {
         self.world.next_chapter()
     }
 
-    /// Lets the session go, and hands out its map and its last chapter.
+    /// Ends the session, and returns its map and its last chapter.
     pub fn finish(self) -> (Grid<A>, Chapter<A>)
         ensures floor { result.0 ≡ self.world.core.floor }
         ensures history { history_of result.1 ≡ self.world.core.history }
@@ -109,12 +110,13 @@ impl<A: Allocator + Copy> Session<A> {
     }
 }
 
-/// Ends a world by its own call: the drop is then proved in the world's crate, and not again here for each type in it.
+/// Ends a world by a call of its own: the drop is then proved in the world's crate, and not again here for each type in
+/// it.
 fn let_go<A: Allocator + Copy>(world: World<A>) {
     let _left = world.finish();
 }
 
-/// What waits of clients that did nothing.
+/// Empty lanes and outlets, for this many clients.
 fn nothing_waits<A: Allocator + Copy>(
     alloc: A,
     count: usize,

@@ -1,4 +1,4 @@
-//! The events of a session, and what each makes of it.
+//! What each kind of event does to a session.
 
 ghost use Rattle.std.specs.Prelude.{◌≡◌, ◌≤◌, IfOk, OnErr, length};
 ghost use Rattle.fleet_history.specs.Notices.{seq_of as seq_of_notice};

@@ -45,7 +45,7 @@ pub struct Rights {
     pub ticks: bool,
 }
 
-/// A demand, if the conversation may make it.
+/// The demand if the conversation may make it, else a bad line.
 fn where_granted(granted: bool, demand: Demand) -> Demand
     ensures { result ≡ where_granted granted demand }
 {

@@ -5,8 +5,8 @@ ghost use Rattle.live_parts.specs.Due.{IsDue, client_count, given_to, told_to};
 
 use std::alloc::{AllocError, Global};
 
-/// By client, how many notices it was given when that was looked at last, and how many when it was last told all that
-/// it found. A client that was given more may find notices: new ones, or some for which there was no room.
+/// For each client, how many notices it was given when the office was last asked, and how many when it was last told
+/// all that it found. A client that was given more may find notices: new ones, or some for which there was no room.
 #[derive(Drop)]
 pub struct Due {
     pub given: Vec<u64>,
@@ -24,7 +24,7 @@ fn at(counts: &[u64], client: usize) -> u64
 }
 
 impl Due {
-    /// N clients, none of which was given anything.
+    /// For n clients, none of which was given anything.
     pub fn new(alloc: Global, clients: usize) -> Result<Due, AllocError>
         ensures count { IfOk result (λ due. (client_count due ≡ clients) × (length due.given.items ≡ clients)) }
         ensures none { IfOk result (λ due. (c : ℕ) → (given_to due c ≡ 0) × (told_to due c ≡ 0)) }
@@ -35,7 +35,7 @@ impl Due {
         })
     }
 
-    /// Whether one of the clients from the first on, before the end, was given notices since it was told all.
+    /// Whether a client with a number from `first` on, below `end`, was given notices since it was told all.
     pub fn is_due(&self, first: usize, end: usize) -> bool
         ensures { IsTrue result ↔ ((c : ℕ) × (first ≤ c) × (c < end) × IsDue self.now c) }
     {
@@ -47,7 +47,7 @@ impl Due {
         false
     }
 
-    /// Notes that the clients from the first on, before the end, were told all that they were given.
+    /// Notes that the clients with numbers from `first` on, below `end`, were told all that they were given.
     pub fn note_told(&mut self, first: usize, end: usize)
         ensures given { self.new.given ≡ self.old.given }
         ensures told { (c : ℕ) → first ≤ c → c < end → c < client_count self.old → told_to self.new c ≡ given_to self.old c }

@@ -201,7 +201,7 @@ impl Figures {
         add_limit(text, self.waits.limit)
     }
 
-    /// Adds what is held in memory beside the fleet.
+    /// Adds what is held in memory besides the fleet.
     fn add_memory(&self, text: &mut String) -> Result<(), AllocError>
         ensures { OnOk result (string_bytes text.new ≡ string_bytes text.old ++ memory_text self.now) }
     {

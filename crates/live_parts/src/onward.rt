@@ -7,7 +7,7 @@ use fleet_history::Opening;
 use fleet_lanes::PostFault;
 use std::alloc::{AllocError, Global};
 
-/// How many orders of each client were taken before a chapter that begins so.
+/// How many orders of each client were taken before a chapter with this opening.
 pub fn taken_before(alloc: Global, opening: &Opening) -> Result<Vec<u64>, AllocError>
     ensures { IfOk result (λ taken. taken.items ≡ map (λ c. c.taken) opening.now.clients) }
 {
@@ -19,8 +19,8 @@ pub fn taken_before(alloc: Global, opening: &Opening) -> Result<Vec<u64>, AllocE
         .collect(alloc)
 }
 
-/// The number of an order that a client posted, counted on from those that were taken of it before; `taken` has these
-/// by client, and nothing of a client of whom none were. A refusal stays as it is.
+/// The number of an order among all that a client posted since the first chapter: its number in the lane, plus how many
+/// were taken before this fleet went on. `taken` has these by client; past its end none were. A refusal stays as it is.
 pub fn number_on(
     taken: &[u64],
     client: u32,

@@ -22,7 +22,7 @@ fn place_of<N: OfficeName<Global>>(guests: &[Guest<N>], client: u32) -> Option<u
     guests.iter().position(|guest| guest.number() == client)
 }
 
-/// Posts an order of this client. `None` where it is none of these; no other client posts.
+/// Posts an order of the client with this number. `None` if it is none of these guests; nothing is posted then.
 pub fn post_in<N: OfficeName<Global>>(
     guests: &mut [Guest<N>],
     client: u32,

@@ -15,7 +15,7 @@ use std::collections::VecDeque;
 use std::marker::Model;
 use std::mem;
 
-/// Chapters that were handed out and are not kept yet, in order. Each of them may be kept.
+/// Chapters that were handed out and are not kept yet, in order. Each is as `ChapterSink::keep` asks.
 #[derive(Drop)]
 pub struct Unkept {
     chapters: VecDeque<Chapter>,

@@ -1,5 +1,5 @@
-//! Two clients post errands from threads of their own while a ticker moves the robots. It is the shortest whole use of an
-//! office: copy it. It prints the same under every schedule of the threads.
+//! Two clients post errands from threads of their own while a ticker moves the robots. It is the shortest whole use of
+//! an office: copy it. It prints the same under every schedule of the threads.
 
 ghost use Rattle.std.specs.Prelude.{◌≡◌};
 ghost use Rattle.fleet_core.specs.Hooks.{laws_of};

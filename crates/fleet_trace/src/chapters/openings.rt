@@ -5,54 +5,46 @@ ghost use Rattle.std.specs.Prelude.{◌≡◌, ◌↔◌, IsTrue};
 use fleet_history::{ClientState, Opening, RobotState};
 use fleet_queue::Errand;
 
-fn are_same_errands(errands: &[Errand], others: &[Errand]) -> bool
-    ensures { IsTrue result ↔ (errands.now ≡ others.now) }
-{
-    if errands.len() != others.len() {
-        return false;
+/// An item of an opening's lists.
+trait Item {
+    /// Whether the other is the same.
+    fn is_same(&self, other: &Self) -> bool
+        ensures { IsTrue result ↔ (self.now ≡ other.now) };
+}
+
+impl Item for Errand {
+    fn is_same(&self, other: &Errand) -> bool {
+        *self == *other
     }
-    for place in 0..errands.len() {
-        if errands[place] != others[place] {
+}
+
+impl Item for ClientState {
+    fn is_same(&self, other: &ClientState) -> bool {
+        *self == *other
+    }
+}
+
+impl Item for RobotState {
+    fn is_same(&self, other: &RobotState) -> bool {
+        if self.cell != other.cell || self.shut != other.shut || self.wait != other.wait {
             return false;
         }
-    }
-    true
-}
-
-fn are_same_clients(clients: &[ClientState], others: &[ClientState]) -> bool
-    ensures { IsTrue result ↔ (clients.now ≡ others.now) }
-{
-    if clients.len() != others.len() {
-        return false;
-    }
-    for place in 0..clients.len() {
-        if clients[place] != others[place] {
+        if self.arrival_law != other.arrival_law || self.farewell_law != other.farewell_law {
             return false;
         }
+        are_same(self.errands.as_slice(), other.errands.as_slice())
     }
-    true
 }
 
-fn is_same_robot(robot: &RobotState, other: &RobotState) -> bool
-    ensures { IsTrue result ↔ (robot.now ≡ other.now) }
+/// Whether the lists have the same items in the same order.
+fn are_same<T: Item>(items: &[T], others: &[T]) -> bool
+    ensures { IsTrue result ↔ (items.now ≡ others.now) }
 {
-    if robot.cell != other.cell || robot.shut != other.shut || robot.wait != other.wait {
+    if items.len() != others.len() {
         return false;
     }
-    if robot.arrival_law != other.arrival_law || robot.farewell_law != other.farewell_law {
-        return false;
-    }
-    are_same_errands(robot.errands.as_slice(), other.errands.as_slice())
-}
-
-fn are_same_robots(robots: &[RobotState], others: &[RobotState]) -> bool
-    ensures { IsTrue result ↔ (robots.now ≡ others.now) }
-{
-    if robots.len() != others.len() {
-        return false;
-    }
-    for place in 0..robots.len() {
-        if !is_same_robot(&robots[place], &others[place]) {
+    for place in 0..items.len() {
+        if !items[place].is_same(&others[place]) {
             return false;
         }
     }
@@ -66,6 +58,6 @@ pub(crate) fn is_same_opening(opening: &Opening, other: &Opening) -> bool
     if opening.tick != other.tick || opening.queue != other.queue || opening.life != other.life {
         return false;
     }
-    are_same_clients(opening.clients.as_slice(), other.clients.as_slice())
-        && are_same_robots(opening.robots.as_slice(), other.robots.as_slice())
+    are_same(opening.clients.as_slice(), other.clients.as_slice())
+        && are_same(opening.robots.as_slice(), other.robots.as_slice())
 }

@@ -12,8 +12,8 @@ use fleet_grid::Grid;
 use fleet_history::{Chapter, Opening};
 use std::alloc::{AllocError, Global};
 
-/// Whether the clock stays below 2^63.
-fn is_early(chapter: &Chapter) -> bool
+/// Whether the clock stays below 2^63, even if each entry is a tick.
+pub fn is_early(chapter: &Chapter) -> bool
     ensures { IsTrue result ↔ IsEarly (history_of chapter.now) }
 {
     let most = chapter
