@@ -1,5 +1,5 @@
 -- One more robot is on its cell.
-use Rattle.std.proofs.Common.{◌+◌, refl}
+use Rattle.std.proofs.Common.{refl}
 use Rattle.fleet_plans.proofs.Seatings.{sat_more}
 use Rattle.fleet_plans.proofs.seats.sit_all.Goals as goal
 
