@@ -1,7 +1,8 @@
 //! Whether a step is free of conflicts, in three passes over its robots.
 
-ghost use Rattle.std.specs.Prelude.{◌≡◌, ◌<◌, ◌⊎◌, ℕ, false, length, slice_index, IfSome, IsTrue};
-ghost use Rattle.fleet_grid.specs.Floor.{IsFloor, IsNeighbour, cell_across};
+ghost use Rattle.std.specs.Prelude.{◌≡◌, ◌<◌, ◌⊎◌, ◌↔◌, ℕ, false, length, slice_index, IfSome, IsTrue, MatchOption};
+ghost use Rattle.fleet_grid.specs.declared.dir.Dir.{Dir};
+ghost use Rattle.fleet_grid.specs.Floor.{IsFloor, IsBeside, IsNeighbour, cell_across};
 ghost use Rattle.fleet_grid.specs.Step.{IsPlacement, IsConflictFree};
 ghost use Rattle.fleet_check.specs.inside.Slots.{AreFound, is_swap};
 
@@ -9,31 +10,33 @@ use crate::slots::{find, seat_all};
 use fleet_grid::{Dir, Grid};
 use std::alloc::Allocator;
 
-/// The direction in which the second cell lies, if it can be next to the first on a map of that width.
+/// The direction in which the second cell lies, if it can be next to the first on a map of that width. A map of one
+/// column has cells to the south and to the north only.
+#[tactic(auto, using(crate::proofs::Found::south_by, crate::proofs::Found::east_by, crate::proofs::Found::north_by, crate::proofs::Found::west_by, crate::proofs::Found::not_after, crate::proofs::Found::not_before))]
 fn direction(width: u32, from: u32, to: u32) -> Option<Dir>
-    ensures { IfSome result (λ dir. to ≡ cell_across width from dir) }
+    ensures across { IfSome result (λ dir. to ≡ cell_across width from dir) }
+    ensures each { MatchOption result ((dir : Dir) → IsBeside width dir from to → ⊥) (λ found. (dir : Dir) → IsBeside width dir from to → IsBeside width found from to) }
 {
     if from < to {
         match to - from {
-            1 => Some(Dir::East),
             steps if steps == width => Some(Dir::South),
+            1 => Some(Dir::East),
             _ => None,
         }
     } else {
         match from - to {
-            1 => Some(Dir::West),
             steps if steps == width => Some(Dir::North),
+            1 => Some(Dir::West),
             _ => None,
         }
     }
 }
 
-/// Whether an edge leads from a floor cell to the other cell, by one look at the ways of the first. On a map of one
-/// column it always answers `false`; a yes is right on every map.
-#[tactic(auto, using(crate::proofs::Found::edge_by))]
-pub fn crosses<B: Allocator + Copy>(grid: &Grid<B>, from: u32, to: u32) -> bool
+/// Whether an edge leads from a floor cell to the other cell, by one look at the ways of the first.
+#[tactic(auto, using(crate::proofs::Found::edge_by, crate::proofs::Found::way_by))]
+fn crosses<B: Allocator + Copy>(grid: &Grid<B>, from: u32, to: u32) -> bool
     requires { IsFloor grid.now from }
-    ensures { IsTrue result → IsNeighbour grid.now from to }
+    ensures { IsTrue result ↔ IsNeighbour grid.now from to }
 {
     match direction(grid.width(), from, to) {
         Some(dir) => grid.exits(from).has(dir),

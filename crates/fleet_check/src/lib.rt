@@ -10,5 +10,4 @@ mod slots;
 
 pub use checker::{StepChecker, check_step};
 pub use fault::StepFault;
-pub use free::crosses;
 pub use placement::check_placement;

@@ -20,7 +20,7 @@ same_ok : {X : Type 0} (x y : X) → ok x ≡ ok y → x ≡ y
 same_ok x y is = cc
 
 -- all was read, so a line says something, and what it says was gone on with
-went_on : {X Y : Type 0} (n : ℕ) (o : Option X) (f : X → Result Y ℕ) (y : Y) → and_then (or_line n o) f ≡ Ok y → (x : X) × (o ≡ Some x) × (f x ≡ Ok y)
+pub went_on : {X Y : Type 0} (n : ℕ) (o : Option X) (f : X → Result Y ℕ) (y : Y) → and_then (or_line n o) f ≡ Ok y → (x : X) × (o ≡ Some x) × (f x ≡ Ok y)
 went_on n None f y is = absurd cc
 went_on n (Some x) f y is = (x, refl, is)
 

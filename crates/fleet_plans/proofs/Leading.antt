@@ -1,14 +1,17 @@
 -- A letter leads to the next cell in its direction.
-use Rattle.std.proofs.Common.{◌≡◌, ◌≢◌, ℕ, ◌+◌, ◌-◌, ◌*◌, ◌%◌, ◌<◌, ◌≤◌, ◌⊎◌, inl, inr, Bool, true, false, Option, Some, None, refl, sym, ap, subst, ◌∙◌, arith}
+use Rattle.std.proofs.Common.{◌≡◌, ◌≢◌, ℕ, ◌+◌, ◌-◌, ◌*◌, ◌%◌, ◌<◌, ◌≤◌, ◌⊎◌, inl, inr, Bool, true, false, length, Option, Some, None, refl, sym, subst, ◌∙◌, arith}
 use Rattle.std.specs.Prelude.{nat_lt, nat_le, ◌==◌, if◌then◌else◌}
 use Rattle.std.proofs.lemmas.Bool.{cases_eq, cases_lt, ltb-true, ltb-false, leb-true, leb-false, eqb-true, eqb-false}
 use Rattle.std.proofs.lemmas.Option.{same_Some}
 use Rattle.std.proofs.Math.Nat.{mod-le, mul-mod_right}
 use Rattle.fleet_grid.specs.declared.dir.Dir.{Dir}
 use Rattle.fleet_grid.specs.declared.dir.Dir.TheVariants.{North, East, South, West}
-use Rattle.fleet_grid.specs.Floor.{IsBeside}
+use Rattle.fleet_grid.specs.Floor.{Floor, HasForm, IsNeighbourIn, cell_across}
+use Rattle.fleet_grid.proofs.Edges.{beside_across}
+use Rattle.fleet_grid.proofs.Forms.{floor_inside}
 use Rattle.fleet_plans.specs.Tracks.{moved}
 use Rattle.fleet_plans.specs.Leads.{dir_of, IsNext, Leads}
+use Rattle.fleet_plans.specs.inside.Seats.{IsStep}
 
 -- what holds of both values of a choice holds of the chosen one
 decide : (P : ℕ → Type 0) (b : Bool) (x y : ℕ) → (b ≡ true → P x) → (b ≡ false → P y) → P (if b then x else y)
@@ -103,6 +106,13 @@ leads w h cell letter =
       off = λ past. decide (λ to. to ≡ cell) (nat_le (w * h) cell) cell go still (on_none past);
     }
 
+-- without a direction a robot stays
+pub stays_by : (w h cell letter : ℕ) → dir_of letter ≡ None → cell ≡ moved w h cell letter
+stays_by w h cell letter is = sym ((leads w h cell letter).waits is)
+
+pub stays_step : (m : Floor) (cell letter : ℕ) → dir_of letter ≡ None → IsStep m cell (moved m.width m.height cell letter)
+stays_step m cell letter is = inl ((leads m.width m.height cell letter).waits is)
+
 -- two cells next to a cell in one direction are one
 one_next : (w h : ℕ) (dir : Dir) (cell a b : ℕ) → IsNext w h dir cell a → IsNext w h dir cell b → a ≡ b
 one_next w h North cell a b p q = omega (arith, p.1, q.1)
@@ -119,6 +129,25 @@ one_goal w h dir cell a b (inr p) (inr q) = p.0 ∙ sym q.0
 only_by : (w h cell letter a b : ℕ) (o : Option Dir) → dir_of letter ≡ o → cell < w * h → Leads w h cell letter a → Leads w h cell letter b → a ≡ b
 only_by w h cell letter a b None is inside p q = p.waits is ∙ sym (q.waits is)
 only_by w h cell letter a b (Some dir) is inside p q = one_goal w h dir cell a b (p.next dir inside is) (q.next dir inside is)
+
+-- along an open way a letter leads to the next cell
+module _ (m : Floor) (cell letter : ℕ) (dir : Dir) (form : HasForm m) (is : dir_of letter ≡ Some dir) (way : (w : ℕ) × IsNeighbourIn m dir cell w) where
+  goes : moved m.width m.height cell letter ≡ way.0
+  goes =
+      let inside = floor_inside m cell way.1.from in
+      let there = floor_inside m way.0 way.1.to in
+      let area : length m.letters ≡ m.width * m.height = omega (arith, form.covered) in
+      let next : IsNext m.width m.height dir cell way.0 = (omega (arith, there, area), way.1.beside) in
+      elim ((leads m.width m.height cell letter).next dir (omega (arith, inside, area)) is) [
+        | inl one ↦ one_next m.width m.height dir cell (moved m.width m.height cell letter) way.0 one next
+        | inr none ↦ absurd (none.1 way.0 next)
+      ]
+
+  pub across_by : cell_across m.width cell dir ≡ moved m.width m.height cell letter
+  across_by = sym (beside_across m.width dir cell way.0 way.1.beside) ∙ sym goes
+
+  pub across_step : IsStep m cell (moved m.width m.height cell letter)
+  across_step = inr (dir, subst (λ (c : ℕ). IsNeighbourIn m dir cell c) (sym goes) way.1)
 
 pub leads_only : (w h cell letter a b : ℕ) → Leads w h cell letter a → Leads w h cell letter b → a ≡ b
 leads_only w h cell letter a b p q = elim (cases_lt cell (w * h)) [

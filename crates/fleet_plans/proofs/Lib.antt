@@ -11,6 +11,7 @@ mod Follows
 pub mod Pieces
 mod Turns
 pub mod Grammar
+mod Tables
 mod Seatings
 mod Going
 mod Leading

@@ -1,28 +1,32 @@
 -- Steps in which few robots move.
-use Rattle.std.proofs.Common.{◌≡◌, ◌≢◌, ℕ, ◌+◌, ◌<◌, ◌⊎◌, inl, inr, List, length, get_or, slice_index, sym, subst, ◌∙◌, arith}
+use Rattle.std.proofs.Common.{◌≡◌, ◌≢◌, ℕ, ◌+◌, ◌<◌, inl, inr, List, length, get_or, slice_index, sym, subst, ◌∙◌, arith}
 use Rattle.std.proofs.lemmas.Bool.{cases_eq}
 use Rattle.std.proofs.lemmas.Grind.{get_or_default_zero}
 use Rattle.std.proofs.lemmas.List.{same_lists}
-use Rattle.fleet_grid.specs.Floor.{Floor, IsFloor, IsNeighbour}
+use Rattle.fleet_grid.specs.Floor.{Floor, IsFloor}
 use Rattle.fleet_grid.specs.Step.{IsPlacement, IsConflictFree}
 use Rattle.fleet_plans.specs.Costs.{IsNoted}
-use Rattle.fleet_plans.specs.inside.Seats.{IsSeated, AreSeated, HaveChanged, MayGo, IsPartOf}
+use Rattle.fleet_plans.specs.inside.Seats.{IsSeated, AreSeated, HaveChanged, KeepToEdges, MayGo, IsPartOf}
+
+-- a robot that is on its cell is there too after another has come to a cell to which it does not come
+pub seat_kept : (old new place : List ℕ) (cell robot : ℕ) → slice_index new cell ≡ robot + 1 → ((c : ℕ) → c ≢ cell → slice_index new c ≡ slice_index old c)
+    → ((r : ℕ) → slice_index old cell ≡ r + 1 → r ≢ robot → slice_index place r ≡ cell → ⊥) → (r : ℕ) → IsSeated old place r → IsSeated new place r
+seat_kept old new place cell robot here there free = λ r was. elim (cases_eq (slice_index place r) cell) [
+  | inl same ↦
+      let on : slice_index old cell ≡ r + 1 = subst (λ (c : ℕ). slice_index old c ≡ r + 1) same was in
+      elim (cases_eq r robot) [
+        | inl is ↦ subst (λ (c : ℕ). slice_index new c ≡ r + 1) (sym same) (here ∙ omega (arith, is))
+        | inr other ↦ absurd (free r on other same)
+      ]
+  | inr other ↦ there (slice_index place r) other ∙ was
+]
 
 -- one more robot is on its cell
 pub sat_more : (old new place robots : List ℕ) (n : ℕ) → ((k : ℕ) → k < n → IsSeated old place (slice_index robots k)) → IsSeated new place (slice_index robots n)
-    → ((c s : ℕ) → slice_index old c ≡ s + 1 → slice_index new c ≡ s + 1) → (k : ℕ) → k < n + 1 → IsSeated new place (slice_index robots k)
+    → ((r : ℕ) → IsSeated old place r → IsSeated new place r) → (k : ℕ) → k < n + 1 → IsSeated new place (slice_index robots k)
 sat_more old new place robots n done here kept = λ k less. elim (cases_eq k n) [
   | inl same ↦ subst (λ (x : ℕ). IsSeated new place (slice_index robots x)) (sym same) here
-  | inr other ↦ kept (slice_index place (slice_index robots k)) (slice_index robots k) (done k (omega (arith, less, other)))
-]
-
--- one more robot has left its cell
-pub left_more : (first old new last place : List ℕ) (robot : ℕ) → ((r : ℕ) → slice_index place r ≡ slice_index last r → IsSeated first last r → IsSeated old last r)
-    → ((c s : ℕ) → slice_index old c ≡ s + 1 → (slice_index new c ≡ s + 1) ⊎ ((s ≡ robot) × (slice_index place robot ≢ slice_index last robot)))
-    → (r : ℕ) → slice_index place r ≡ slice_index last r → IsSeated first last r → IsSeated new last r
-left_more first old new last place robot were leaves = λ r stays seated. elim (leaves (slice_index last r) r (were r stays seated)) [
-  | inl kept ↦ kept
-  | inr gone ↦ absurd (gone.1 (subst (λ (x : ℕ). slice_index place x ≡ slice_index last x) gone.0 stays))
+  | inr other ↦ kept (slice_index robots k) (done k (omega (arith, less, other)))
 ]
 
 -- one more robot may go
@@ -40,24 +44,24 @@ module _ (robots last place : List ℕ) (changed : HaveChanged robots last place
     | inr goes ↦ let one = changed r less goes in subst P one.is (moved one.at one.inside)
   ]
 
-  pub all_may : (m : Floor) (seats : List ℕ) → ((k : ℕ) → k < length robots → MayGo m seats last place (slice_index robots k)) → (r : ℕ) → r < length last → MayGo m seats last place r
-  all_may m seats may = each (λ r. MayGo m seats last place r) may (λ r less stays. inl stays)
+  pub all_may : (seats : List ℕ) → ((k : ℕ) → k < length robots → MayGo seats last place (slice_index robots k)) → (r : ℕ) → r < length last → MayGo seats last place r
+  all_may seats may = each (λ r. MayGo seats last place r) may (λ r less stays. inl stays)
 
-  pub all_sat : (seats mid new : List ℕ) → length place ≡ length last → AreSeated seats last → ((r : ℕ) → slice_index place r ≡ slice_index last r → IsSeated seats last r → IsSeated mid last r)
-      → ((r : ℕ) → IsSeated mid place r → IsSeated new place r) → ((k : ℕ) → k < length robots → IsSeated new place (slice_index robots k)) → AreSeated new place
-  all_sat seats mid new same seated left kept sat = λ r less.
+  pub all_sat : (seats new : List ℕ) → length place ≡ length last → AreSeated seats last → ((r : ℕ) → IsSeated seats place r → IsSeated new place r)
+      → ((k : ℕ) → k < length robots → IsSeated new place (slice_index robots k)) → AreSeated new place
+  all_sat seats new same seated kept sat = λ r less.
       each (λ x. IsSeated new place x) sat
-      (λ x inner stays. kept x (subst (λ (c : ℕ). slice_index mid c ≡ x + 1) (sym stays) (left x stays (seated x inner)))) r (omega (arith, less, same))
+      (λ x inner stays. kept x (subst (λ (c : ℕ). slice_index seats c ≡ x + 1) (sym stays) (seated x inner))) r (omega (arith, less, same))
 
-pub free : (m : Floor) (seats new last place : List ℕ) → length place ≡ length last → IsPlacement m last → AreSeated seats last → ((r : ℕ) → r < length last → MayGo m seats last place r)
+pub free : (m : Floor) (seats new last place : List ℕ) → length place ≡ length last → IsPlacement m last → KeepToEdges m last place → AreSeated seats last → ((r : ℕ) → r < length last → MayGo seats last place r)
     → AreSeated new place → IsConflictFree m last place
-free m seats new last place same placed seated may sat = record {
+free m seats new last place same placed edges seated may sat = record {
   same_length = same;
-  on_floor = λ r less. elim (may r less) [
+  on_floor = λ r less. elim (edges r less) [
     | inl stays ↦ subst (λ (c : ℕ). IsFloor m c) (sym stays) (placed.on_floor r less)
-    | inr p ↦ p.0.1.to
+    | inr edge ↦ edge.1.to
   ];
-  moves = λ r less. elim (may r less) [ inl stays ↦ inl stays | inr p ↦ inr p.0 ];
+  moves = edges;
   no_vertex_conflict = λ i j order inside together.
       let one : IsSeated new place i = sat i (omega (arith, order, inside, same)) in
       let other : IsSeated new place j = sat j (omega (arith, inside, same)) in
@@ -67,7 +71,7 @@ free m seats new last place same placed seated may sat = record {
   no_swapping_conflict = λ i j order inside there back.
       elim (may i (omega (arith, order, inside))) [
         | inl stays ↦ placed.distinct i j order inside (sym stays ∙ there)
-        | inr p ↦ p.1 j (subst (λ (c : ℕ). slice_index seats c ≡ j + 1) (sym there) (seated j inside)) back
+        | inr p ↦ p j (subst (λ (c : ℕ). slice_index seats c ≡ j + 1) (sym there) (seated j inside)) (sym there) back
       ];
 }
 

@@ -88,6 +88,11 @@ gone_on w h starts tracks m n from to old new was moves taken =
       given = taken m places was.given;
     }
 
+-- a step is the same by sides that are the map's
+pub moved_on : (m : Floor) (w h : ℕ) (tracks : List (List ℕ)) (t : ℕ) (last from to : List ℕ) → m.width ≡ w → m.height ≡ h → last ≡ from → IsMoved m.width m.height tracks t last to → IsMoved w h tracks t from to
+moved_on m w h tracks t last from to wide tall is moves =
+    subst (λ (x : ℕ). IsMoved x h tracks t from to) wide (subst (λ (x : ℕ). IsMoved m.width x tracks t from to) tall (subst (λ (q : List ℕ). IsMoved m.width m.height tracks t q to) is moves))
+
 pub taken_first : (m : Floor) (starts place : List ℕ) (judge : Judged) → place ≡ starts → HasJudged m (starts ∷ []) judge → HasJudged judge.floor (place ∷ []) judge
 taken_first m starts place judge is was =
     subst (λ (p : List ℕ). HasJudged judge.floor (p ∷ []) judge) (sym is) (subst (λ (f : Floor). HasJudged f (starts ∷ []) judge) (sym was.on) was)

@@ -1,9 +1,12 @@
--- A plan's text with a head: what its lines say, as relations.
-use Rattle.std.specs.Prelude.{◌≡◌, ℕ, ◌+◌, ◌≤◌, true, not, List, [], ◌∷◌, ◌++◌, filter, length, Some, slice_get, codes}
+-- What the lines of a plan's text say, as relations: with a head, and of a table.
+use Rattle.std.specs.Prelude.{◌≡◌, ℕ, ◌+◌, ◌≤◌, true, not, List, [], ◌∷◌, ◌++◌, filter, length, Some, slice_get, slice_index_or, codes}
 use Rattle.std.specs.List.{list_all}
-use Rattle.fleet_map.specs.Text.{is_empty}
+use Rattle.fleet_map.specs.Text.{is_empty, number_of}
+use Rattle.fleet_plans.specs.Form.{is_header}
 use Rattle.fleet_plans.specs.Head.{Head, Opened, blank_head, split_once, with_line}
-use Rattle.fleet_plans.specs.Places.{begins, place_in}
+use Rattle.fleet_plans.specs.Places.{begins, is_number, place_in}
+use Rattle.fleet_plans.specs.Scenario.{cell_of}
+use Rattle.fleet_plans.specs.Table.{Fields, fields_of}
 use Rattle.fleet_plans.specs.Tracks.{is_move}
 use Rattle.fleet_plans.specs.Valid.{place_at}
 
@@ -35,3 +38,39 @@ pub record AreTracks (robots : ℕ) (lines tracks : List (List ℕ)) : Type 0 wh
   pub are : tracks ≡ lines
   pub count : length lines ≡ robots
   pub moves : (r : ℕ) (line : List ℕ) → slice_get lines r ≡ Some line → list_all is_move line ≡ true
+
+-- the path of the robot has this cell at a time
+abbrev pub HasAt : List (List ℕ) → ℕ → ℕ → ℕ → Type 0
+HasAt paths robot time cell = slice_get (slice_index_or paths robot []) time ≡ Some cell
+
+-- a line of a table puts the robot at a time on this cell
+pub record Puts (w h : ℕ) (line : List ℕ) (robot time cell : ℕ) : Type 0 where
+  pub words : Fields
+  pub are : fields_of line ≡ Some words
+  pub numbered : is_number robot (number_of words.agent) ≡ true
+  pub timed : is_number time (number_of words.time) ≡ true
+  pub there : cell_of w h words.column words.row ≡ Some cell
+
+-- one of these lines does
+pub record IsPut (w h : ℕ) (lines : List (List ℕ)) (robot time cell : ℕ) : Type 0 where
+  pub at : ℕ
+  pub line : List ℕ
+  pub is : slice_get lines at ≡ Some line
+  pub puts : Puts w h line robot time cell
+
+-- a line puts a robot where its path has it
+pub record AgreesWith (w h : ℕ) (paths : List (List ℕ)) (line : List ℕ) : Type 0 where
+  pub robot : ℕ
+  pub time : ℕ
+  pub cell : ℕ
+  pub puts : Puts w h line robot time cell
+  pub has : HasAt paths robot time cell
+
+-- the header, and lines that put robots where their paths have them; no path has another cell
+pub record IsTable (w h : ℕ) (lines paths : List (List ℕ)) : Type 0 where
+  pub first : List ℕ
+  pub cells : List (List ℕ)
+  pub parts : lines ≡ first ∷ cells
+  pub headed : is_header first ≡ true
+  pub each : (k : ℕ) (line : List ℕ) → slice_get cells k ≡ Some line → AgreesWith w h paths line
+  pub all : (robot time cell : ℕ) → HasAt paths robot time cell → IsPut w h cells robot time cell

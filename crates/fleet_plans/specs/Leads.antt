@@ -1,5 +1,5 @@
 -- Where a letter leads, by the directions on a map.
-use Rattle.std.specs.Prelude.{◌≡◌, ◌≢◌, ℕ, ◌*◌, ◌<◌, ◌≤◌, ◌⊎◌, Option, Some, None, ◌==◌, if◌then◌else◌}
+use Rattle.std.specs.Prelude.{◌≡◌, ℕ, ◌*◌, ◌<◌, ◌≤◌, ◌⊎◌, Option, Some, None, ◌==◌, if◌then◌else◌}
 use Rattle.fleet_grid.specs.declared.dir.Dir.{Dir}
 use Rattle.fleet_grid.specs.declared.dir.Dir.TheVariants.{North, East, South, West}
 use Rattle.fleet_grid.specs.Floor.{IsBeside}

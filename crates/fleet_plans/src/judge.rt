@@ -4,6 +4,7 @@ mod part;
 
 ghost use Rattle.std.specs.Prelude.{◌≡◌, ◌≤◌, ◌<◌, ◌+◌, ◌++◌, ◌∷◌, ◌^◌, ℕ, List, [], length, slice_index, Some, None, MatchOption, OnOk, IfOk, IfErr, IsOk, IsSome, IsTrue, option_map};
 ghost use Rattle.fleet_grid.specs.Floor.{Floor};
+ghost use Rattle.fleet_grid.specs.Step.{IsPlacement};
 ghost use Rattle.fleet_plans.specs.Valid.{IsValidPlan, IsPlanFault, place_at, last_of};
 ghost use Rattle.fleet_plans.specs.Report.{IsReportOf};
 ghost use Rattle.fleet_plans.specs.Costs.{IsNoted};
@@ -249,9 +250,17 @@ impl<'a, A: Allocator + Copy, B: Allocator + Copy> PlanJudge<'a, A, B> {
         self.first.as_slice()
     }
 
+    /// The map on which the robots are.
+    pub(crate) fn grid(&self) -> &'a Grid<B>
+        ensures { result.now ≡ self.now.floor }
+    {
+        self.grid
+    }
+
     /// The last placement before the first fault.
     pub(crate) fn last(&self) -> &[u32]
         ensures exact { result.now ≡ self.now.last }
+        ensures placed { IsPlacement self.now.floor result.now }
         ensures few { length result.now < 2 ^ 32 }
     {
         self.last.as_slice()

@@ -3,10 +3,11 @@
 ghost use Rattle.std.specs.Prelude.{◌≡◌, ◌<◌, ℕ, List, [], Ok, length};
 ghost use Rattle.fleet_grid.specs.Floor.{Floor};
 ghost use Rattle.fleet_grid.specs.Step.{IsPlacement};
-ghost use Rattle.fleet_plans.specs.Grammar.{IsHead, ArePlaces, AreTracks};
+ghost use Rattle.fleet_plans.specs.Grammar.{IsHead, IsTable, ArePlaces, AreTracks};
 ghost use Rattle.fleet_plans.specs.Head.{Head, Opened, blank_head, head_of};
 ghost use Rattle.fleet_plans.specs.Leads.{Leads};
 ghost use Rattle.fleet_plans.specs.Places.{places_of};
+ghost use Rattle.fleet_plans.specs.Table.{Trails, paths_of, table_of};
 ghost use Rattle.fleet_plans.specs.Tracks.{moved, tracks_of};
 ghost use Rattle.fleet_plans.specs.Valid.{place_at, IsValidPlan};
 
@@ -22,6 +23,12 @@ pub fn a_text_is_by_its_lines()
     ensures head { (w h : ℕ) (lines : List (List ℕ)) (o : Opened) → head_of w h blank_head 1 lines ≡ Ok o → IsHead w h lines o }
     ensures places { (w h : ℕ) (head : Head) (number : ℕ) (lines places : List (List ℕ)) → places_of w h head [] number lines ≡ Ok places → ArePlaces w h head lines places }
     ensures tracks { (robots number : ℕ) (lines tracks : List (List ℕ)) → tracks_of robots [] number lines ≡ Ok tracks → AreTracks robots lines tracks }
+{}
+
+/// The paths that are read of a table are what its lines say: each line puts a robot at a time on a cell, and no path has
+/// another cell.
+pub fn a_table_is_by_its_lines()
+    ensures { (w h : ℕ) (lines : List (List ℕ)) (t : Trails) → table_of w h lines ≡ Ok t → IsTable w h lines (paths_of t) }
 {}
 
 /// A letter leads to the next cell in its direction, or off the map if there is none; with `w` a robot stays, and off

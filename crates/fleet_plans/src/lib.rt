@@ -41,7 +41,10 @@ pub use form::{TextForm, form_of, is_plan};
 pub use goals::GoalFault;
 pub use judge::PlanJudge;
 pub use judging::{FaultText, PlanFault};
-pub use law::{a_text_is_by_its_lines, letters_lead_to_the_next_cell, robots_stay_apart};
+pub use law::{
+    a_table_is_by_its_lines, a_text_is_by_its_lines, letters_lead_to_the_next_cell,
+    robots_stay_apart,
+};
 pub use limit::MOST_PLAN_BYTES;
 pub use misspelt::{KnownKey, Misspelt, first_misspelt};
 pub use placements::Placements;

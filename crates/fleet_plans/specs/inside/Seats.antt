@@ -19,11 +19,19 @@ pub record IsOneOf (robots : List ℕ) (r : ℕ) : Type 0 where
 abbrev pub HaveChanged : List ℕ → List ℕ → List ℕ → Type 0
 HaveChanged robots last place = (r : ℕ) → r < length last → slice_index place r ≢ slice_index last r → IsOneOf robots r
 
--- the robot stays, or crosses an edge to a cell from which no robot comes to its own; the table is that of the last cells
-abbrev pub MayGo : Floor → List ℕ → List ℕ → List ℕ → ℕ → Type 0
-MayGo m seats last place r =
+-- from the one cell a robot stays on it, or crosses an edge to the other
+abbrev pub IsStep : Floor → ℕ → ℕ → Type 0
+IsStep m from to = (to ≡ from) ⊎ IsNeighbour m from to
+
+-- each robot does
+abbrev pub KeepToEdges : Floor → List ℕ → List ℕ → Type 0
+KeepToEdges m last place = (r : ℕ) → r < length last → IsStep m (slice_index last r) (slice_index place r)
+
+-- the robot stays, or goes to a cell from which no robot comes to its own; the table is that of the last cells, and may have robots where they are no more
+abbrev pub MayGo : List ℕ → List ℕ → List ℕ → ℕ → Type 0
+MayGo seats last place r =
     (slice_index place r ≡ slice_index last r)
-    ⊎ (IsNeighbour m (slice_index last r) (slice_index place r) × ((j : ℕ) → slice_index seats (slice_index place r) ≡ j + 1 → slice_index place j ≢ slice_index last r))
+    ⊎ ((j : ℕ) → slice_index seats (slice_index place r) ≡ j + 1 → slice_index last j ≡ slice_index place r → slice_index place j ≢ slice_index last r)
 
 -- the robot's last cell and cost are as they were; or its cell is the new one, which is another, and its cost this time
 abbrev pub IsPartOf : List ℕ → List ℕ → List ℕ → ℕ → List ℕ → List ℕ → ℕ → Type 0

@@ -5,7 +5,7 @@ ghost use Rattle.fleet_grid.specs.Floor.{Floor};
 ghost use Rattle.fleet_grid.specs.Step.{IsConflictFree};
 ghost use Rattle.fleet_plans.specs.Costs.{IsNoted};
 ghost use Rattle.fleet_plans.specs.Judge.{HasJudged};
-ghost use Rattle.fleet_plans.specs.inside.Seats.{AreSeated, HaveChanged, IsPartOf};
+ghost use Rattle.fleet_plans.specs.inside.Seats.{AreSeated, HaveChanged, IsPartOf, KeepToEdges};
 
 use super::{PlanJudge, keep};
 use crate::seats::is_free_step;
@@ -85,26 +85,29 @@ impl<'a, A: Allocator + Copy, B: Allocator + Copy> PlanJudge<'a, A, B> {
         Ok(())
     }
 
-    /// Takes a next placement to which only these robots have moved. The table has the robots on their last cells. If
-    /// the result is true, the placement is free of faults, and the table has them on their new cells.
+    /// Takes a next placement to which only these robots have moved; it is known whether each of them stayed or crossed
+    /// an edge. The table has the robots on their last cells. If the result is true, the placement is free of faults,
+    /// and the table has them on their new cells.
     pub(crate) fn take_some(
         &mut self,
         seats: &mut [u32],
         robots: &[u32],
         place: &[u32],
+        on_edges: bool,
     ) -> Result<bool, AllocError>
         requires later { 1 ≤ self.old.count }
         requires times { self.old.count < 2 ^ 32 }
         requires faultless { self.old.fault ≡ None }
         requires each_one { length place.now ≡ length self.old.last }
         requires changed { HaveChanged robots.now self.old.last place.now }
+        requires edges { IsTrue on_edges → KeepToEdges self.old.floor self.old.last place.now }
         requires seated { AreSeated seats.old self.old.last }
         ensures taken { (m : Floor) (places : List (List ℕ)) → HasJudged m places self.old → OnOk result (HasJudged m (places ++ place.now ∷ []) self.new) }
         ensures faultless { IfOk result (λ free. IsTrue free → self.new.fault ≡ None) }
         ensures last { IfOk result (λ free. IsTrue free → self.new.last ≡ place.now) }
         ensures seated { IfOk result (λ free. IsTrue free → AreSeated seats.new place.now) }
     {
-        if is_free_step(self.grid, seats, robots, self.last.as_slice(), place) {
+        if on_edges && is_free_step(seats, robots, self.last.as_slice(), place) {
             self.take_free(robots, place)?;
             return Ok(true);
         }

@@ -5,5 +5,5 @@ use Rattle.fleet_plans.proofs.Seatings.{may_more}
 use Rattle.fleet_plans.proofs.seats.may_all.Goals as goal
 
 pub loop-k-preserved : goal.loop-k-preserved
-loop-k-preserved g c =
-    may_more (λ (r : ℕ). MayGo c.args.grid.now c.args.seats.now c.args.last.now c.args.place.now r) c.args.robots.now c.loop-k.k c.loop-k.invariant (c.if-not-may_go.ensures refl)
+loop-k-preserved c =
+    may_more (λ (r : ℕ). MayGo c.args.seats.now c.args.last.now c.args.place.now r) c.args.robots.now c.loop-k.k c.loop-k.invariant (c.if-not-may_go.ensures refl)

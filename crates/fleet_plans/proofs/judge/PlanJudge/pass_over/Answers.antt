@@ -1,5 +1,5 @@
 -- More placements are counted.
-use Rattle.std.proofs.Common.{◌≡◌, ℕ, ◌+◌, Option, refl, ap, ◌∙◌, sym, subst}
+use Rattle.std.proofs.Common.{ℕ, ◌+◌, Option, refl, ap, ◌∙◌, sym, subst}
 use Rattle.std.specs.Prelude.{IsSome}
 use Rattle.fleet_plans.specs.declared.judging.PlanFault.{PlanFault}
 use Rattle.fleet_plans.specs.Judge.{Judged}

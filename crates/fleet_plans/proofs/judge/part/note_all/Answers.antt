@@ -1,6 +1,6 @@
 -- One more robot is noted; or all are.
-use Rattle.std.proofs.Common.{ℕ, ◌∙◌, inl, refl, arith}
-use Rattle.fleet_plans.proofs.Seatings.{part_more, done_more, all_arrived, all_noted}
+use Rattle.std.proofs.Common.{◌∙◌, inl, refl, arith}
+use Rattle.fleet_plans.proofs.Seatings.{part_more, done_more}
 use Rattle.fleet_plans.proofs.judge.part.note_all.Goals as goal
 
 pub loop-k-init : goal.loop-k-init
