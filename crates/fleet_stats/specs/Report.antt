@@ -1,7 +1,7 @@
 -- The text for a map and for traces on it, and why there is none.
-use Rattle.std.specs.Prelude.{◌≡◌, ℕ, List, length, Ok}
+use Rattle.std.specs.Prelude.{◌≡◌, ℕ, List, length, Ok, Err}
 use Rattle.std.specs.declared.alloc.Global.{Global}
-use Rattle.fleet_map.specs.Grammar.{Map, Fails, map_of}
+use Rattle.fleet_map.specs.Grammar.{Map, map_of}
 use Rattle.fleet_map.specs.declared.fault.MapFault.{MapFault}
 use Rattle.fleet_grid.specs.Floor.{Floor, floor_of_map}
 use Rattle.fleet_trace.specs.Trace.{Trace}
@@ -56,6 +56,6 @@ pub data IsNoneOn (m : Floor) (texts : List (List ℕ)) (f : StatsFault) : Type 
 
 -- why there is none: the map comes first
 pub data IsNone (map : List ℕ) (texts : List (List ℕ)) (f : StatsFault) : Type 0 where
-  unmapped : (e : MapFault) → Fails e (map_of map) → f ≡ fault.Map e → IsNone map texts f
+  unmapped : (e : MapFault) → map_of map ≡ Err e → f ≡ fault.Map e → IsNone map texts f
   refused : (floor : Map) → map_of map ≡ Ok floor → IsNoneOn (floor_of_map floor) texts f → IsNone map texts f
   no_memory : f ≡ fault.NoMemory → IsNone map texts f

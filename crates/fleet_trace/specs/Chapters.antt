@@ -1,5 +1,5 @@
 -- Chapters of one run: texts that tell them, and whether they follow one another.
-use Rattle.std.specs.Prelude.{⊤, ◌≡◌, ℕ, ◌+◌, ◌^◌, ◌<◌, List, [], ◌∷◌, ◌++◌, length, map}
+use Rattle.std.specs.Prelude.{⊤, ◌≡◌, ◌≢◌, ℕ, ◌+◌, ◌^◌, ◌<◌, List, [], ◌∷◌, ◌++◌, length, map}
 use Rattle.std.specs.declared.alloc.Global.{Global}
 use Rattle.fleet_grid.specs.Floor.{Floor}
 use Rattle.fleet_history.specs.History.{History, clock, clients, place}
@@ -8,6 +8,7 @@ use Rattle.fleet_history.specs.Next.{next_opening}
 use Rattle.fleet_trace.specs.declared.fault.ChaptersFault.{ChaptersFault}
 use Rattle.fleet_trace.specs.declared.fault.ChaptersFault.TheVariants as fault
 use Rattle.fleet_trace.specs.declared.fault.TraceFault.{TraceFault}
+use Rattle.fleet_trace.specs.declared.fault.TraceFault.TheVariants as trace_fault
 use Rattle.fleet_trace.specs.Trace.{Trace}
 use Rattle.fleet_trace.specs.Reads.{Tells, IsTraceFault}
 
@@ -30,6 +31,7 @@ pub record IsUnread (texts : List (List ℕ)) (number : ℕ) (f : TraceFault) : 
   pub traces : List (Trace Global)
   pub told : TellEach before traces
   pub why : IsTraceFault text f
+  pub named : f ≢ trace_fault.NoMemory
 
 -- ---- chapters that follow one another
 

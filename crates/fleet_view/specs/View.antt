@@ -1,8 +1,8 @@
 -- The result of a map's text and of traces on it.
-use Rattle.std.specs.Prelude.{◌≡◌, ◌+◌, ℕ, List, length, Option, Some, None, Ok}
+use Rattle.std.specs.Prelude.{◌≡◌, ◌+◌, ℕ, List, length, Option, Some, None, Ok, Err}
 use Rattle.std.specs.declared.alloc.Global.{Global}
 use Rattle.fleet_grid.specs.Floor.{Floor, floor_of_map}
-use Rattle.fleet_map.specs.Grammar.{Map, Fails, map_of}
+use Rattle.fleet_map.specs.Grammar.{Map, map_of}
 use Rattle.fleet_trace.specs.Trace.{Trace}
 use Rattle.fleet_trace.specs.Chapters.{TellChapters, IsOutOfTurn, IsUnread}
 use Rattle.fleet_view.specs.declared.fault.ViewFault.{ViewFault}
@@ -71,7 +71,7 @@ IsUnshownOn map texts fault = (floor : Map) × (map_of map ≡ Ok floor) × AreN
 
 -- why nothing is shown, unless memory ran out: the map comes before the traces
 abbrev pub IsUnshown : List ℕ → List (List ℕ) → ViewFault → Type 0
-IsUnshown map texts (fault.Map f) = Fails f (map_of map)
+IsUnshown map texts (fault.Map f) = map_of map ≡ Err f
 IsUnshown map texts (fault.Trace f) = IsUnshownOn map texts (fault.Trace f)
 IsUnshown map texts (fault.Chapter number) = IsUnshownOn map texts (fault.Chapter number)
 IsUnshown map texts (fault.OffMap number) = IsUnshownOn map texts (fault.OffMap number)

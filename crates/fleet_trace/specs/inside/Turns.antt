@@ -1,10 +1,11 @@
 -- Chapters as they are read and compared one by one.
-use Rattle.std.specs.Prelude.{⊤, ◌≡◌, ℕ, ◌+◌, Bool, ◌==◌, ◌&&◌, List, [], ◌∷◌, ◌++◌, length, map}
+use Rattle.std.specs.Prelude.{⊤, ◌≡◌, ◌≢◌, ℕ, ◌+◌, Bool, ◌==◌, ◌&&◌, List, [], ◌∷◌, ◌++◌, length, map}
 use Rattle.std.specs.Str.{bytes_eq}
 use Rattle.std.specs.declared.alloc.Global.{Global}
 use Rattle.fleet_history.specs.History.{clock, place}
 use Rattle.fleet_trace.specs.declared.fault.ChaptersFault.{ChaptersFault}
 use Rattle.fleet_trace.specs.declared.fault.ChaptersFault.TheVariants as fault
+use Rattle.fleet_trace.specs.declared.fault.TraceFault.TheVariants as trace_fault
 use Rattle.fleet_trace.specs.Trace.{Trace}
 use Rattle.fleet_trace.specs.Reads.{Tells, IsTraceFault}
 use Rattle.fleet_trace.specs.Chapters.{IsUnread}
@@ -15,7 +16,7 @@ IsToldMore text ts more = (t : Trace Global) × Tells text t × (more ≡ ts ++ 
 
 -- why the text of this number tells no trace, unless memory ran out
 abbrev pub IsUntold : ℕ → List ℕ → ChaptersFault → Type 0
-IsUntold number text (fault.Trace n f) = (n ≡ number) × IsTraceFault text f
+IsUntold number text (fault.Trace n f) = (n ≡ number) × IsTraceFault text f × (f ≢ trace_fault.NoMemory)
 IsUntold number text (fault.Chapter n) = ⊥
 IsUntold number text fault.NoMemory = ⊤
 
