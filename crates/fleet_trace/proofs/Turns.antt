@@ -46,8 +46,8 @@ module _ {V : Type 0} (f : V → List ℕ) (texts : List V) (k : ℕ) where
           place = omega (arith, told.0, same, length-map (take k texts) f, length-take-le k texts (omega (arith, less)));
           traces = ts;
           told = each;
-          why = told.1.0;
-          named = told.1.1;
+          why = told.1;
+          named = told.2;
         }
     untold ts number (fault.Chapter n) each same told = absurd told
     untold ts number fault.NoMemory each same told = tt
