@@ -7,7 +7,8 @@ ghost use Rattle.errands_lib.specs.Told.{IsShown, names_two};
 
 use crate::job::Job;
 use crate::program::{fail, run_program};
-use fleet_text::{InputFault, program_kit};
+use fleet_hooks::{ArrivalHook, Farewell, Hooks, TieHook};
+use fleet_text::{HookKit, InputFault};
 use std::alloc::{Alloc, AllocError, Global};
 use std::io::{Read, Write};
 use std::sync::Wait;
@@ -31,11 +32,26 @@ fn run_with_hooks<R: Alloc<A = Global> + Threads + Sync + Wait, I: Read, W: Writ
     ensures output { OnErr result (output.new ≡ output.old) }
     ensures error { OnErr result (error.new ≡ error.old) }
 {
-    let kit = program_kit!(rt.alloc(), ROBOTS);
+    let alloc = rt.alloc();
+    let plain = Hooks::alike(
+        alloc,
+        ROBOTS,
+        TieHook::fixed([0; 4]),
+        ArrivalHook::fixed(0),
+        Farewell::fixed(0),
+    )?;
+    let south = Hooks::alike(
+        alloc,
+        ROBOTS,
+        TieHook::south_first(),
+        ArrivalHook::by_tick(),
+        Farewell::by_cell(),
+    )?;
+    let kit = HookKit { plain, south };
     Ok(run_program(rt, job, map, other, output, error, kit))
 }
 
-/// Does the job with the program's hooks. Returns the status, 7 if there was no memory for them.
+/// Does the job with the program's hooks. Returns the status, 7 where there was no memory for them.
 pub fn run_with_kit<R: Alloc<A = Global> + Threads + Sync + Wait, I: Read, W: Write, E: Write>(
     rt: &R,
     job: &Job,
