@@ -11,11 +11,12 @@ ghost use Rattle.fleet_lib.specs.Ended.{EndsWith, IsEnded, broken_off, file_show
 use crate::kept::{KeptFault, KeptText, kept_chapter};
 use fleet_grid::Grid;
 use fleet_history::Chapter;
+use fleet_hooks::{ArrivalHook, Farewell, Hooks, TieHook};
 use fleet_script::Head;
 use fleet_talk::{
     ChapterSink, Ends, Ground, MOST_ROBOTS, ResumeFault, Settings, TalkFault, converse, resume,
 };
-use fleet_text::program_kit;
+use fleet_text::HookKit;
 use std::alloc::{Alloc, Global};
 use std::io::{Read, Write};
 
@@ -62,7 +63,22 @@ fn hold_with_hooks<R: Alloc<A = Global>, I: Read, W: Write, S: ChapterSink>(
         EndsWith (terms_of ground.0 (drafted ground.1) settings) (option_map chapter_shown kept) bytes
         (W.contents ends.old.output) (W.contents ends.new.output) (record { old = S.kept ends.old.sink; new = S.kept ends.new.sink }) result) }
 {
-    let kit = program_kit!(rt.alloc(), MOST_ROBOTS);
+    let alloc = rt.alloc();
+    let plain = Hooks::alike(
+        alloc,
+        MOST_ROBOTS,
+        TieHook::fixed([0; 4]),
+        ArrivalHook::fixed(0),
+        Farewell::fixed(0),
+    )?;
+    let south = Hooks::alike(
+        alloc,
+        MOST_ROBOTS,
+        TieHook::south_first(),
+        ArrivalHook::by_tick(),
+        Farewell::by_cell(),
+    )?;
+    let kit = HookKit { plain, south };
     let (grid, head) = ground;
     hold_on(rt, Ground { grid, kit, head }, kept, settings, ends)
 }
