@@ -105,22 +105,22 @@ fn time_fleet<R: Alloc<A = Global> + Clock>(
     let mut stepper = Stepper::new(rt.alloc(), site.grid.cell_count(), robots as u32)?;
     let mut found = Measure::NONE;
     for _ in 0..REPEATS {
-        let start = Instant::now(rt)?;
-        make_ticks(site, fields, &mut fleet, &mut stepper, ties, random);
-        found = found.with(start.elapsed(rt)?.as_nanos());
+        let nanos = time_ticks(rt, site, fields, &mut fleet, &mut stepper, ties, random)?;
+        found = found.with(nanos);
     }
     Ok(found)
 }
 
-/// Some ticks, one after another.
-fn make_ticks(
+/// The nanoseconds that some ticks take.
+fn time_ticks<R: Alloc<A = Global> + Clock>(
+    rt: &R,
     site: &Site,
     fields: &[Compass],
     fleet: &mut Fleet,
     stepper: &mut Stepper,
     ties: &[TieHook],
     random: &mut Random,
-)
+) -> io::Result<u128>
     requires some { 0 < length fields.now }
     requires serves { Serves site.now.grid site.now.home fields.now }
     requires way { IsUnderWay site.now.grid site.now.home (length fields.now) fleet.old.from.items fleet.old.to.items fleet.old.waits.items fleet.old.aims.items }
@@ -130,8 +130,10 @@ fn make_ticks(
     ensures robots { vec_len fleet.new.from ≡ vec_len fleet.old.from }
     ensures made { stepper.new ≡ stepper.old }
 {
+    let start = Instant::now(rt)?;
     for tick in 0..u64::from(TICKS) {
         fleet.step(site, fields, stepper, ties, tick);
         fleet.arrive(site, fields, random);
     }
+    Ok(start.elapsed(rt)?.as_nanos())
 }

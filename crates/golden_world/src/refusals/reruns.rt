@@ -108,8 +108,9 @@ fn tell_run<R: Alloc<A = Global>>(
     row: Row<'_, Event>,
     told: &mut String,
 ) -> Result<(), AllocError> {
-    match run_row(rt, row, MANY)? {
-        (Ok(Run::Ended { ending, .. }), left) => {
+    let (run, left) = run_row(rt, row, MANY)?;
+    match run {
+        Ok(Run::Ended { ending, .. }) => {
             tell_reruns(rt, row, &ending, MANY.wrapping_sub(left), told)
         }
         _ => writeln!(told, "not run"),
