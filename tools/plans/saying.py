@@ -10,6 +10,10 @@ WANTED = {
 }
 
 
+# what is said of a text that is no JSON, before the place at which its reader stopped
+NOT_JSON = "it is not UTF-8, or not JSON, or nested deeper than 127"
+
+
 def cell_text(rows, cell):
     x, y = cell
     if not (0 <= y < len(rows) and 0 <= x < len(rows[0])):
@@ -44,7 +48,7 @@ def complaint_sentence(form, is_plan, words):
     if is_plan:
         return f"the number that its head says under `{words[0]}` is not that of the plan"
     if words[0] == "json":
-        return "it is not UTF-8, or not JSON, or nested deeper than 127"
+        return NOT_JSON
     if len(words) == 1:
         return f"`{words[0]}` is missing, or what it has is not in its form"
     return f"under `{words[0]}`, the item of robot {words[1]} is not in its form"

@@ -115,18 +115,32 @@ NO_ROOM = (("take-refused", 2), ("tick-refused", 2), ("shut-refused", 3))
 
 # ---- a fleet that goes on
 
+# how the sentence of a text that tells no trace begins: the model does not say which part is not in its form
 TRACE_FAULTS = {
     1: "it is not UTF-8, or not JSON, or nested deeper than 127",
     2: "the number under `version` is not 1 or 2",
-    3: "it is JSON, but not in the form of a trace, an object with `version`, `chapter`, `opening` and `entries`",
+    3: "",
 }
-# of the rules of which the model says all that `fleet explain` says
+# of the rules of which the model says all that `fleet explain` says; of the first rule how the sentence begins
 RULES = {
     1: "it is not in order",
     2: "there is no such client",
     7: "a stamp is outside of its robot's law",
     8: "the robot cannot be shut",
 }
+
+
+def stamp_outside(chapter, entry):
+    """The robot, stamp and law of the first stamp of an entry that is outside of its law."""
+    robots = chapter["opening"]["robots"]
+    if entry[0] == "tick":
+        shown = [(one[0], one[3], 4) for one in entry[2]] + [(robot, stamp, 5) for robot, stamp in entry[3]]
+    else:
+        shown = [(entry[1], entry[2], 5)]
+    for robot, stamp, law in shown:
+        low, high = robots[robot][law]
+        if not low <= stamp <= high:
+            return robot, stamp, low, high
 
 
 def explained(chapter, at, rule):
@@ -139,6 +153,8 @@ def explained(chapter, at, rule):
     more = ""
     if rule == 2:
         more = f": the number of clients is {len(chapter['opening']['clients'])}"
+    if rule == 7:
+        more = ": robot {}'s stamp {} is not from {} to {}".format(*stamp_outside(chapter, entry))
     if rule == 8:
         count = len(chapter["opening"]["robots"])
         more = ": it is shut already" if entry[1] < count else f": the number of robots is {count}"

@@ -9,21 +9,20 @@ use Rattle.fleet_script.specs.Shown.{FailsAt}
 use Rattle.fleet_script.specs.declared.script.ScriptFault.{ScriptFault}
 use Rattle.fleet_script.specs.declared.script.ScriptFault.TheVariants as script_fault
 use Rattle.fleet_trace.specs.Trace.{Trace}
-use Rattle.fleet_trace.specs.Reads.{Tells, IsTraceFault}
-use Rattle.fleet_trace.specs.declared.fault.TraceFault.{TraceFault}
+use Rattle.fleet_trace.specs.Reads.{Tells}
 use Rattle.fleet_explain.specs.declared.line.LineFault.{LineFault}
 use Rattle.fleet_explain.specs.declared.explanation.Explanation.{Explanation}
 use Rattle.fleet_explain.specs.declared.explanation.Explanation.TheVariants as explanation
 use Rattle.fleet_explain.specs.Lines.{fault_at}
 use Rattle.fleet_explain.specs.Explained as explained
-use Rattle.fleet_explain.specs.Explained.{IsScriptExplained, IsScriptOn, IsServedAs, IsTraceExplained, IsJudgedAs}
+use Rattle.fleet_explain.specs.Explained.{IsScriptExplained, IsScriptOn, IsServedAs, IsNoTrace, IsTraceExplained, IsJudgedAs}
 use Rattle.fleet_core.specs.Opening.{CanStart}
 
 pub trace_on : (map trace : List ℕ) (e : Explanation) (m : Map) (t : Trace Global) → map_of map ≡ Ok m → Tells trace t → IsJudgedAs m t.history e → IsTraceExplained map trace e
 trace_on map trace e m t read tells is = explained.on_map m t read tells is
 
-pub trace_none : (map trace : List ℕ) (m : Map) (f : TraceFault) → map_of map ≡ Ok m → IsTraceFault trace f → IsTraceExplained map trace (explanation.Trace f)
-trace_none map trace m f read why = explained.no_trace m f read why refl
+pub trace_none : (map trace : List ℕ) (m : Map) (e : Explanation) → map_of map ≡ Ok m → IsNoTrace trace e → IsTraceExplained map trace e
+trace_none map trace m e read why = explained.no_trace m read why
 
 pub script_on : (map script : List ℕ) (e : Explanation) (m : Map) (p : Plan) → map_of map ≡ Ok m → script_of script ≡ Ok p → IsScriptOn m p e → IsScriptExplained map script e
 script_on map script e m p read plan is = explained.on_floor m p read plan is
@@ -42,5 +41,7 @@ served_on m p (explanation.Map f) opens served = absurd served
 served_on m p (explanation.Letter r column l) opens served = absurd served
 served_on m p (explanation.Script n f) opens served = absurd served
 served_on m p (explanation.Start f width) opens served = absurd served
-served_on m p (explanation.Trace f) opens served = absurd served
+served_on m p (explanation.NotJson position) opens served = absurd served
+served_on m p explanation.Version opens served = absurd served
+served_on m p (explanation.Form part) opens served = absurd served
 served_on m p (explanation.Illegal at rule kind detail) opens served = absurd served

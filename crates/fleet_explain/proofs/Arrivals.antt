@@ -17,7 +17,7 @@ use Rattle.fleet_history.proofs.Legal.{length-place}
 use Rattle.fleet_trace.specs.Judged.{before, Breaks, IsFirstIllegal}
 use Rattle.fleet_explain.specs.declared.arrival.ArrivalName.{ArrivalName}
 use Rattle.fleet_explain.specs.declared.detail.Detail.{Detail}
-use Rattle.fleet_explain.specs.declared.detail.Detail.TheVariants.{Nothing, Due, Step, Missing, Extra, MissingFarewell, ExtraFarewell, Clients, Robots, ShutBefore}
+use Rattle.fleet_explain.specs.declared.detail.Detail.TheVariants.{Nothing, Due, Step, Missing, Extra, MissingFarewell, ExtraFarewell, Opening, Stamp, Clients, Robots, ShutBefore}
 use Rattle.fleet_explain.specs.Only.{first_only, HasNoOther, IsOnlyIn}
 use Rattle.fleet_explain.specs.Details.{named, is_same, IsArrivalDetail, IsDetail}
 use Rattle.fleet_explain.proofs.AtEntry.{the_same, entry_at}
@@ -95,8 +95,7 @@ module _ {A : Type 0} (m : Floor) (h : History A) (at : ℕ) (first : IsFirstIll
   -- what is said of its arrivals is what there is to say
   pub arrivals_told : (to : List ℕ) (arrived : List Arrival) (farewells : List Bye) → slice_get h.entries (at - 1) ≡ Some (Tick to arrived farewells) → (d : Detail)
       → IsArrivalDetail (due (before h (at - 1)) to) (map due_of arrived) d → IsDetail m h at 5 d
-  arrivals_told to arrived farewells there Nothing is =
-      ((λ bad. omega (arith, bad)), (λ bad. omega (arith, bad)), (λ five. (to, arrived, farewells, there, is)), λ bad. absurd (omega (arith, bad)))
+  arrivals_told to arrived farewells there Nothing is = inl (refl, (to, arrived, farewells, there, is))
   arrivals_told to arrived farewells there (Due v) is = absurd is
   arrivals_told to arrived farewells there (Step fault) is = absurd is
   arrivals_told to arrived farewells there (MissingFarewell r) is = absurd is
@@ -104,5 +103,7 @@ module _ {A : Type 0} (m : Floor) (h : History A) (at : ℕ) (first : IsFirstIll
   arrivals_told to arrived farewells there (Clients n) is = absurd is
   arrivals_told to arrived farewells there (Robots n) is = absurd is
   arrivals_told to arrived farewells there ShutBefore is = absurd is
+  arrivals_told to arrived farewells there (Opening part) is = absurd is
+  arrivals_told to arrived farewells there (Stamp s) is = absurd is
   arrivals_told to arrived farewells there (Missing d) is = (refl, (to, arrived, farewells, there, is))
   arrivals_told to arrived farewells there (Extra d) is = (refl, (to, arrived, farewells, there, is))

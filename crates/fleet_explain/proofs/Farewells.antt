@@ -15,7 +15,7 @@ use Rattle.fleet_history.specs.Legal.{IsLegal, is_none_left, robot_if}
 use Rattle.fleet_history.proofs.Legal.{length-place}
 use Rattle.fleet_trace.specs.Judged.{before, ShowsDue, ShowsFarewell, Breaks, IsFirstIllegal}
 use Rattle.fleet_explain.specs.declared.detail.Detail.{Detail}
-use Rattle.fleet_explain.specs.declared.detail.Detail.TheVariants.{Nothing, Due, Step, Missing, Extra, MissingFarewell, ExtraFarewell, Clients, Robots, ShutBefore}
+use Rattle.fleet_explain.specs.declared.detail.Detail.TheVariants.{Nothing, Due, Step, Missing, Extra, MissingFarewell, ExtraFarewell, Opening, Stamp, Clients, Robots, ShutBefore}
 use Rattle.fleet_explain.specs.Only.{first_only, HasNoOther, IsOnlyIn}
 use Rattle.fleet_explain.specs.Details.{same_robot, farewells_shown, farewells_due, IsFarewellDetail, IsTickDetail, shut_detail, IsDetail}
 use Rattle.fleet_explain.proofs.AtEntry.{the_same, entry_at}
@@ -80,7 +80,7 @@ module _ {A : Type 0} (m : Floor) (h : History A) (at : ℕ) (first : IsFirstIll
 
     -- what is said of its farewells is what there is to say
     pub farewell_told : (d : Detail) → IsFarewellDetail (farewells_due (before h (at - 1)) e) (farewells_shown e) d → IsDetail m h at 6 d
-    farewell_told Nothing told = ((λ bad. omega (arith, bad)), (λ bad. omega (arith, bad)), (λ bad. absurd (omega (arith, bad))), λ six. (e, there, told))
+    farewell_told Nothing told = inr (refl, (e, there, told))
     farewell_told (Due v) told = absurd told
     farewell_told (Step fault) told = absurd told
     farewell_told (Missing d) told = absurd told
@@ -88,6 +88,8 @@ module _ {A : Type 0} (m : Floor) (h : History A) (at : ℕ) (first : IsFirstIll
     farewell_told (Clients n) told = absurd told
     farewell_told (Robots n) told = absurd told
     farewell_told ShutBefore told = absurd told
+    farewell_told (Opening part) told = absurd told
+    farewell_told (Stamp s) told = absurd told
     farewell_told (MissingFarewell r) told = (refl, (e, there, told))
     farewell_told (ExtraFarewell r) told = (refl, (e, there, told))
 

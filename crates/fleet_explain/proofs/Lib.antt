@@ -6,6 +6,8 @@ mod Verdicts
 mod Only
 mod Farewells
 mod Stepped
+mod Stamps
+mod Openings
 mod Arrivals
 mod Places
 mod Planned

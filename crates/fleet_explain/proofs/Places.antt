@@ -9,8 +9,8 @@ use Rattle.std.proofs.lemmas.Fmt.{decimal_is_IsNumeral}
 use Rattle.std.proofs.lemmas.List.{append_assoc}
 use Rattle.fleet_map.specs.declared.fault.MapFault.{MapFault}
 use Rattle.fleet_map.specs.declared.fault.MapFault.TheVariants as map
-use Rattle.fleet_trace.specs.declared.fault.TraceFault.{TraceFault}
-use Rattle.fleet_trace.specs.declared.fault.TraceFault.TheVariants as trace
+use Rattle.fleet_trace.specs.declared.read.form.FormPart.{FormPart}
+use Rattle.fleet_trace.specs.declared.read.form.FormPart.TheVariants as form
 use Rattle.fleet_explain.specs.declared.limits.LimitKind.{LimitKind}
 use Rattle.fleet_explain.specs.declared.limits.LimitKind.TheVariants as kind
 use Rattle.fleet_book.specs.declared.limit.Limit.TheVariants as limit
@@ -20,7 +20,7 @@ use Rattle.fleet_explain.specs.declared.explanation.Explanation.{Explanation}
 use Rattle.fleet_explain.specs.declared.explanation.Explanation.TheVariants as explanation
 use Rattle.fleet_explain.specs.Sentences.{line_text, kind_text, rule_text, more_text, letter_text, sentence}
 use Rattle.fleet_explain.specs.Limits.{least_of, most_of, name_of}
-use Rattle.fleet_explain.specs.Places.{File, no_file, map_file, script_file, trace_file, Place, whole, line, row, letter, entry, file_of, place_of, IsInRange}
+use Rattle.fleet_explain.specs.Places.{File, no_file, map_file, script_file, trace_file, Place, whole, line, row, letter, entry, file_of, form_place, place_of, IsInRange}
 
 -- ---- a number at the front of a text
 
@@ -70,7 +70,9 @@ file_read (explanation.Letter r column l) = refl
 file_read (explanation.Script n f) = refl
 file_read (explanation.Unserved n clients) = refl
 file_read (explanation.Start f width) = refl
-file_read (explanation.Trace f) = refl
+file_read (explanation.NotJson position) = refl
+file_read explanation.Version = refl
+file_read (explanation.Form part) = refl
 file_read (explanation.Illegal at rule kind detail) = refl
 
 pub one_file : (e f : Explanation) → sentence e ≡ sentence f → file_of e ≡ file_of f
@@ -173,11 +175,16 @@ start_read (start.OffFloor robot cell) width = refl
 start_read (start.Outside robot cell cells) width = refl
 start_read (start.Shared first second cell) width = refl
 
-trace_read : (f : TraceFault) → place_by trace_file (sentence (explanation.Trace f)) ≡ whole
-trace_read trace.NotJson = refl
-trace_read trace.Version = refl
-trace_read trace.Shape = refl
-trace_read trace.NoMemory = refl
+shapes : List ℕ
+shapes = codes "is not in the form of a take, a tick or a shut: `[\"take\",CLIENT,ORDER,VERDICT]`, `[\"tick\",CELLS,ARRIVALS,FAREWELLS]`, `[\"shut\",ROBOT]` or `[\"shut\",ROBOT,STAMP]`"
+
+form_read : (part : FormPart) → IsInRange (form_place part) → place_by trace_file (sentence (explanation.Form part)) ≡ form_place part
+form_read form.Value small = refl
+form_read form.Members small = refl
+form_read form.Chapter small = refl
+form_read form.Opening small = refl
+form_read form.Entries small = refl
+form_read (form.Entry n) small = ap entry (number_read n 32 shapes small refl)
 
 pub place_read : (e : Explanation) → IsInRange (place_of e) → place_by (file_of e) (sentence e) ≡ place_of e
 place_read explanation.Fine small = refl
@@ -193,7 +200,9 @@ place_read (explanation.Unserved n clients) small =
     (four (codes "all in order for `run`; `serve` does not take line ") (decimal n) (codes ", which is no post or collect of a client below ") (decimal clients))
     ∙ ap line (number_read n 44 (codes " which is no post or collect of a client below " ++ decimal clients) small refl)
 place_read (explanation.Start f width) small = start_read f width
-place_read (explanation.Trace f) small = trace_read f
+place_read (explanation.NotJson position) small = refl
+place_read explanation.Version small = refl
+place_read (explanation.Form part) small = form_read part small
 place_read (explanation.Illegal at rule kind detail) small =
     ap (place_by trace_file) (seven (codes "the trace: entry ") (decimal at) (codes ", ") (kind_text kind) (codes ": ") (rule_text rule) (more_text rule detail))
     ∙ ap entry (number_read at 44 (codes " " ++ (kind_text kind ++ (codes ": " ++ (rule_text rule ++ more_text rule detail)))) small refl)

@@ -14,7 +14,7 @@ use Rattle.fleet_history.proofs.Legal.{legal-placement}
 use Rattle.fleet_trace.specs.Judged.{before, Breaks, IsFirstIllegal}
 use Rattle.fleet_check.specs.Fault.{IsFirstFault}
 use Rattle.fleet_explain.specs.declared.detail.Detail.{Detail}
-use Rattle.fleet_explain.specs.declared.detail.Detail.TheVariants.{Nothing, Due, Step, Missing, Extra, MissingFarewell, ExtraFarewell, Clients, Robots, ShutBefore}
+use Rattle.fleet_explain.specs.declared.detail.Detail.TheVariants.{Nothing, Due, Step, Missing, Extra, MissingFarewell, ExtraFarewell, Opening, Stamp, Clients, Robots, ShutBefore}
 use Rattle.fleet_explain.proofs.AtEntry.{take_front, get_at}
 use Rattle.fleet_explain.specs.Details.{IsStepDetail, IsDetail}
 
@@ -81,5 +81,7 @@ module _ {A : Type 0} (m : Floor) (h : History A) (at rule : ℕ) (is : rule ≡
   told e to arrived farewells taken there tick same first (Clients n) none = absurd none
   told e to arrived farewells taken there tick same first (Robots n) none = absurd none
   told e to arrived farewells taken there tick same first ShutBefore none = absurd none
+  told e to arrived farewells taken there tick same first (Opening part) none = absurd none
+  told e to arrived farewells taken there tick same first (Stamp s) none = absurd none
   told e to arrived farewells taken there tick same first (Missing d) none = absurd none
   told e to arrived farewells taken there tick same first (Extra d) none = absurd none

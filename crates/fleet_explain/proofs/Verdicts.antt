@@ -11,7 +11,7 @@ use Rattle.fleet_history.specs.declared.history.Entry.TheVariants.{Take, Tick, S
 use Rattle.fleet_history.specs.History.{History, clients}
 use Rattle.fleet_trace.specs.Judged.{before, Breaks, IsFirstIllegal}
 use Rattle.fleet_explain.specs.declared.detail.Detail.{Detail}
-use Rattle.fleet_explain.specs.declared.detail.Detail.TheVariants.{Nothing, Due, Step, Missing, Extra, MissingFarewell, ExtraFarewell, Clients, Robots, ShutBefore}
+use Rattle.fleet_explain.specs.declared.detail.Detail.TheVariants.{Nothing, Due, Step, Missing, Extra, MissingFarewell, ExtraFarewell, Opening, Stamp, Clients, Robots, ShutBefore}
 use Rattle.fleet_explain.specs.Details.{IsVerdictDetail, IsDetail}
 use Rattle.fleet_explain.proofs.AtEntry.{the_same, entry_at}
 
@@ -65,3 +65,5 @@ module _ {A : Type 0} (m : Floor) (h : History A) (at : ℕ) (first : IsFirstIll
   verdict_told client order shown there (Clients n) told = absurd told
   verdict_told client order shown there (Robots n) told = absurd told
   verdict_told client order shown there ShutBefore told = absurd told
+  verdict_told client order shown there (Opening part) told = absurd told
+  verdict_told client order shown there (Stamp s) told = absurd told

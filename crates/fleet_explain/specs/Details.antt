@@ -1,5 +1,5 @@
 -- What more there is to say of an entry that breaks a rule.
-use Rattle.std.specs.Prelude.{◌≡◌, ◌≢◌, ℕ, ◌-◌, ◌==◌, ◌&&◌, Bool, nat_lt, if◌then◌else◌, List, [], ◌∷◌, Option, Some, None, map, slice_get}
+use Rattle.std.specs.Prelude.{◌≡◌, ◌⊎◌, ℕ, ◌-◌, ◌==◌, ◌&&◌, Bool, nat_lt, if◌then◌else◌, List, [], ◌∷◌, Option, Some, None, map, slice_get}
 use Rattle.fleet_grid.specs.Floor.{Floor}
 use Rattle.fleet_grid.specs.Step.{IsConflictFree}
 use Rattle.fleet_check.specs.Fault.{IsFirstFault}
@@ -13,10 +13,13 @@ use Rattle.fleet_history.specs.Verdicts.{IsVerdict}
 use Rattle.fleet_book.specs.declared.order.Order.{Order}
 use Rattle.fleet_book.specs.declared.verdict.Verdict.{Verdict}
 use Rattle.fleet_trace.specs.Judged.{before, ShowsDue}
+use Rattle.fleet_trace.specs.OutOfOrder.{IsOutOfOrder}
 use Rattle.fleet_explain.specs.declared.detail.Detail.{Detail}
-use Rattle.fleet_explain.specs.declared.detail.Detail.TheVariants.{Nothing, Due, Step, Missing, Extra, MissingFarewell, ExtraFarewell, Clients, Robots, ShutBefore}
+use Rattle.fleet_explain.specs.declared.detail.Detail.TheVariants.{Nothing, Opening, Due, Step, Missing, Extra, MissingFarewell, ExtraFarewell, Stamp, Clients, Robots, ShutBefore}
 use Rattle.fleet_explain.specs.declared.arrival.ArrivalName.{ArrivalName}
+use Rattle.fleet_explain.specs.declared.stamp.RobotStamp.{RobotStamp}
 use Rattle.fleet_explain.specs.Only.{HasNoOther, IsOnlyIn}
+use Rattle.fleet_explain.specs.Stamps.{first_outside, stamps_of}
 
 -- of a step from cells to cells
 abbrev pub IsStepDetail : Floor → List ℕ → List ℕ → Detail → Type 0
@@ -113,20 +116,33 @@ why_not_shut robots robot = if nat_lt robot robots then ShutBefore else Robots r
 abbrev pub IsShutAt : {A : Type 0} → History A → ℕ → Detail → Type 0
 IsShutAt h at detail = (robot : ℕ) × (farewell : Option ℕ) × (slice_get h.entries (at - 1) ≡ Some (Shut robot farewell)) × (detail ≡ why_not_shut (robots h) robot)
 
+-- ---- a stamp
+
+abbrev pub stamp_detail : Option RobotStamp → Detail
+stamp_detail None = Nothing
+stamp_detail (Some stamp) = Stamp stamp
+
+-- of the stamps of the entry at this place, from 1, this is the first that is outside of its law
+abbrev pub IsStampAt : {A : Type 0} → History A → ℕ → RobotStamp → Type 0
+IsStampAt {A} h at stamp =
+    (e : Entry A) × (slice_get h.entries (at - 1) ≡ Some e) × (first_outside (stamps_of h.opening.robots e) ≡ Some stamp)
+
 -- ---- an entry
 
--- where the third rule is broken, the verdict that was due is named; where the fourth is, the first fault of the step; where the fifth
--- or the sixth is, an arrival or a farewell that is missing or too many; where the second or the eighth is, how many clients or robots
--- there are, or that the robot is shut already. Nothing is said where a tick shows those that are due, but in
--- another order or more than once
+-- where the first rule is broken, the part of the opening that is not in order is named; where the second is, how many clients there are; where
+-- the third is, the verdict that was due; where the fourth is, the first fault of the step; where the fifth or the sixth is, an arrival or a farewell
+-- that is missing or too many; where the seventh is, the stamp; where the eighth is, how many robots there are, or that the robot is shut already.
+-- Nothing is said only where an entry shows the arrivals or farewells that are due, but in another order or more than once
 abbrev pub IsDetail : {A : Type 0} → Floor → History A → ℕ → ℕ → Detail → Type 0
-IsDetail m h at rule Nothing = (rule ≢ 3) × (rule ≢ 4) × (rule ≡ 5 → IsArrivalAt h at Nothing) × (rule ≡ 6 → IsFarewellAt h at Nothing)
+IsDetail m h at rule Nothing = ((rule ≡ 5) × IsArrivalAt h at Nothing) ⊎ ((rule ≡ 6) × IsFarewellAt h at Nothing)
+IsDetail m h at rule (Opening part) = (rule ≡ 1) × IsOutOfOrder m h.opening part
 IsDetail m h at rule (Due verdict) = (rule ≡ 3) × IsVerdictAt m h at (Due verdict)
 IsDetail m h at rule (Step fault) = (rule ≡ 4) × IsStepAt m h at (Step fault)
 IsDetail m h at rule (Missing d) = (rule ≡ 5) × IsArrivalAt h at (Missing d)
 IsDetail m h at rule (Extra d) = (rule ≡ 5) × IsArrivalAt h at (Extra d)
 IsDetail m h at rule (MissingFarewell r) = (rule ≡ 6) × IsFarewellAt h at (MissingFarewell r)
 IsDetail m h at rule (ExtraFarewell r) = (rule ≡ 6) × IsFarewellAt h at (ExtraFarewell r)
+IsDetail m h at rule (Stamp stamp) = (rule ≡ 7) × IsStampAt h at stamp
 IsDetail m h at rule (Clients count) = (rule ≡ 2) × (count ≡ clients h)
 IsDetail m h at rule (Robots count) = (rule ≡ 8) × IsShutAt h at (Robots count)
 IsDetail m h at rule ShutBefore = (rule ≡ 8) × IsShutAt h at ShutBefore

@@ -8,9 +8,10 @@ use Rattle.fleet_grid.specs.Floor.{Floor, floor_of_map}
 use Rattle.fleet_history.specs.History.{History}
 use Rattle.fleet_history.specs.Legal.{IsLegal}
 use Rattle.fleet_script.specs.Script.{Plan, script_of}
-use Rattle.fleet_trace.specs.declared.fault.TraceFault.{TraceFault}
+use Rattle.fleet_trace.specs.declared.fault.TraceFault.TheVariants.{NotJson, Version, Shape}
 use Rattle.fleet_trace.specs.Trace.{Trace}
 use Rattle.fleet_trace.specs.Reads.{Tells, IsTraceFault}
+use Rattle.fleet_trace.specs.FormFault.{IsFormFault}
 use Rattle.fleet_trace.specs.Judged.{IsFirstIllegal}
 use Rattle.fleet_explain.specs.declared.explanation.Explanation.{Explanation}
 use Rattle.fleet_explain.specs.declared.explanation.Explanation.TheVariants as explanation
@@ -53,6 +54,13 @@ pub data IsScriptExplained (map script : List ℕ) (e : Explanation) : Type 0 wh
 
 -- ---- a trace on a map
 
+-- the text tells no trace, for this reason; where its reader stopped is as the reader says
+abbrev pub IsNoTrace : List ℕ → Explanation → Type 0
+IsNoTrace trace (explanation.NotJson position) = IsTraceFault trace NotJson
+IsNoTrace trace explanation.Version = IsTraceFault trace Version
+IsNoTrace trace (explanation.Form part) = IsTraceFault trace Shape × IsFormFault trace part
+IsNoTrace trace _ = ⊥
+
 -- the history is legal on the map, or this is the first entry that breaks a rule
 abbrev pub IsJudgedAs : Map → History Global → Explanation → Type 0
 IsJudgedAs m h explanation.Fine = IsLegal (floor_of_map m) h
@@ -61,5 +69,5 @@ IsJudgedAs m h _ = ⊥
 
 pub data IsTraceExplained (map trace : List ℕ) (e : Explanation) : Type 0 where
   without_map : IsNoMap map e → IsTraceExplained map trace e
-  no_trace : (m : Map) (f : TraceFault) → map_of map ≡ Ok m → IsTraceFault trace f → e ≡ explanation.Trace f → IsTraceExplained map trace e
+  no_trace : (m : Map) → map_of map ≡ Ok m → IsNoTrace trace e → IsTraceExplained map trace e
   on_map : (m : Map) (t : Trace Global) → map_of map ≡ Ok m → Tells trace t → IsJudgedAs m t.history e → IsTraceExplained map trace e

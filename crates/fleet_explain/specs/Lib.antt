@@ -5,6 +5,7 @@ pub mod Starts
 pub mod Served
 pub mod Entries
 pub mod Only
+pub mod Stamps
 pub mod Details
 pub mod Explained
 pub mod Plans

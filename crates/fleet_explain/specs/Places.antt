@@ -2,6 +2,8 @@
 use Rattle.std.specs.Prelude.{⊤, ℕ, ◌^◌, ◌<◌}
 use Rattle.fleet_map.specs.declared.fault.MapFault.{MapFault}
 use Rattle.fleet_map.specs.declared.fault.MapFault.TheVariants as map
+use Rattle.fleet_trace.specs.declared.read.form.FormPart.{FormPart}
+use Rattle.fleet_trace.specs.declared.read.form.FormPart.TheVariants as form
 use Rattle.fleet_explain.specs.declared.explanation.Explanation.{Explanation}
 use Rattle.fleet_explain.specs.declared.explanation.Explanation.TheVariants as explanation
 
@@ -26,7 +28,9 @@ file_of (explanation.Letter r column l) = map_file
 file_of (explanation.Script n f) = script_file
 file_of (explanation.Unserved n clients) = no_file
 file_of (explanation.Start f width) = script_file
-file_of (explanation.Trace f) = trace_file
+file_of (explanation.NotJson position) = trace_file
+file_of explanation.Version = trace_file
+file_of (explanation.Form part) = trace_file
 file_of (explanation.Illegal at rule kind detail) = trace_file
 
 abbrev pub map_place : MapFault → Place
@@ -37,6 +41,14 @@ map_place (map.Cell r column) = row r
 map_place (map.Trailing n) = line n
 map_place map.NoMemory = whole
 
+abbrev pub form_place : FormPart → Place
+form_place form.Value = whole
+form_place form.Members = whole
+form_place form.Chapter = whole
+form_place form.Opening = whole
+form_place form.Entries = whole
+form_place (form.Entry n) = entry n
+
 abbrev pub place_of : Explanation → Place
 place_of explanation.Fine = whole
 place_of (explanation.Map f) = map_place f
@@ -44,7 +56,9 @@ place_of (explanation.Letter r column l) = letter r column
 place_of (explanation.Script n f) = line n
 place_of (explanation.Unserved n clients) = line n
 place_of (explanation.Start f width) = whole
-place_of (explanation.Trace f) = whole
+place_of (explanation.NotJson position) = whole
+place_of explanation.Version = whole
+place_of (explanation.Form part) = form_place part
 place_of (explanation.Illegal at rule kind detail) = entry at
 
 -- its numbers are below 2^64

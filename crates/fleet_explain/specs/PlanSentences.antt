@@ -44,7 +44,7 @@ wanted_text form.Schedule = codes "is none of `agentK:`, `- x: COLUMN`, `y: ROW`
 wanted_text form.Table = codes "is not that of the next cell, `AGENT,TIME,ROW,COLUMN`, after `agent,time,row,column`"
 
 abbrev pub runners_text : RunnersFault → List ℕ
-runners_text runners.NotJson = codes "it is not UTF-8, or not JSON, or nested deeper than 127"
+runners_text runners.NotJson = codes "it is not JSON"
 runners_text (runners.Key key) = codes "`" ++ (told.key_text key ++ codes "` is missing, or what it has is not in its form")
 runners_text (runners.Item key robot) = codes "under `" ++ (told.key_text key ++ (codes "`, the item of robot " ++ (decimal robot ++ codes " is not in its form")))
 runners_text runners.NoMemory = codes "out of memory"
@@ -64,6 +64,7 @@ plan_sentence (plan.Map e) = sentence e
 plan_sentence (plan.Line n form) = codes "the plan: line " ++ (decimal n ++ (codes " " ++ wanted_text form))
 plan_sentence (plan.Cut n) = codes "the plan: the text ends too early, line " ++ (decimal n ++ codes " is missing")
 plan_sentence (plan.Scenario n) = codes "the scenario: line " ++ (decimal n ++ codes " is not allowed where it is")
+plan_sentence (plan.NotJson stop) = codes "the plan: it is not UTF-8, or not JSON, or nested deeper than 127: its reader stopped at line " ++ (decimal stop.line ++ (codes ", column " ++ decimal stop.column))
 plan_sentence (plan.Json f) = codes "the plan: " ++ runners_text f
 plan_sentence (plan.Head f) = codes "the plan: " ++ head_text f
 plan_sentence (plan.Placed m) = codes "the plan: " ++ misplaced_text m

@@ -7,12 +7,15 @@ use Rattle.fleet_plans.specs.declared.answer.PlanAnswer.{PlanAnswer}
 use Rattle.fleet_plans.specs.declared.answer.PlanAnswer.TheVariants as answer
 use Rattle.fleet_plans.specs.declared.form.TextForm.{TextForm}
 use Rattle.fleet_plans.specs.declared.judging.PlanFault.{PlanFault}
+use Rattle.fleet_plans.specs.declared.runners.fault.RunnersFault.{RunnersFault}
+use Rattle.fleet_plans.specs.declared.runners.fault.RunnersFault.TheVariants as runners
 use Rattle.fleet_plans.specs.Form.{form_of}
 use Rattle.fleet_plans.specs.Goals.{Nothing}
 use Rattle.fleet_plans.specs.Study.{IsTextStudy}
 use Rattle.fleet_plans.specs.Valid.{place_at}
 use Rattle.fleet_explain.specs.declared.explanation.Explanation.{Explanation}
 use Rattle.fleet_explain.specs.declared.explanation.Explanation.TheVariants as explanation
+use Rattle.fleet_explain.specs.declared.json.Position.{Position}
 use Rattle.fleet_explain.specs.declared.plan.PlanExplanation.{PlanExplanation}
 use Rattle.fleet_explain.specs.declared.plan.PlanExplanation.TheVariants as plan
 use Rattle.fleet_explain.specs.declared.plan.Misplaced.{Misplaced}
@@ -37,18 +40,25 @@ misplaced width places f = record {
   to = slice_index (place_at places f.time) (robot_of f.fault);
 }
 
--- what is wrong with a text in this form, on a map of this width, if these are its placements and this is said of it
-abbrev pub plan_explained : TextForm → ℕ → List (List ℕ) → PlanAnswer → PlanExplanation
-plan_explained form width places (answer.Map f) = plan.Map (explanation.Map f)
-plan_explained form width places (answer.Text n) = plan.Line n form
-plan_explained form width places (answer.Cut n) = plan.Cut n
-plan_explained form width places (answer.Scenario n) = plan.Scenario n
-plan_explained form width places (answer.Json f) = plan.Json f
-plan_explained form width places (answer.Head f) = plan.Head f
-plan_explained form width places (answer.Valid report) = plan.Fine
-plan_explained form width places (answer.Invalid f) = plan.Placed (misplaced width places f)
-plan_explained form width places (answer.Goals time f) = plan.Goals f
+-- what is said of a text that begins as JSON and is not a plan: where it is no JSON, the place at which its reader stopped, as the reader says
+abbrev pub IsJsonSaid : RunnersFault → PlanExplanation → Type 0
+IsJsonSaid runners.NotJson e = (stop : Position) × (e ≡ plan.NotJson stop)
+IsJsonSaid (runners.Key key) e = e ≡ plan.Json (runners.Key key)
+IsJsonSaid (runners.Item key robot) e = e ≡ plan.Json (runners.Item key robot)
+IsJsonSaid runners.NoMemory e = e ≡ plan.Json runners.NoMemory
+
+-- what is said of a text in this form, on a map of this width, if these are its placements and this is the answer on it
+abbrev pub IsSaid : TextForm → ℕ → List (List ℕ) → PlanAnswer → PlanExplanation → Type 0
+IsSaid form width places (answer.Map f) e = e ≡ plan.Map (explanation.Map f)
+IsSaid form width places (answer.Text n) e = e ≡ plan.Line n form
+IsSaid form width places (answer.Cut n) e = e ≡ plan.Cut n
+IsSaid form width places (answer.Scenario n) e = e ≡ plan.Scenario n
+IsSaid form width places (answer.Json f) e = IsJsonSaid f e
+IsSaid form width places (answer.Head f) e = e ≡ plan.Head f
+IsSaid form width places (answer.Valid report) e = e ≡ plan.Fine
+IsSaid form width places (answer.Invalid f) e = e ≡ plan.Placed (misplaced width places f)
+IsSaid form width places (answer.Goals time f) e = e ≡ plan.Goals f
 
 pub data IsPlanExplained (map text : List ℕ) (e : PlanExplanation) : Type 0 where
   no_map : (x : Explanation) → IsNoMap map x → e ≡ plan.Map x → IsPlanExplained map text e
-  on_map : (m : Map) (a : PlanAnswer) (places : List (List ℕ)) → map_of map ≡ Ok m → IsTextStudy Nothing m text a places → e ≡ plan_explained (form_of text) m.width places a → IsPlanExplained map text e
+  on_map : (m : Map) (a : PlanAnswer) (places : List (List ℕ)) → map_of map ≡ Ok m → IsTextStudy Nothing m text a places → IsSaid (form_of text) m.width places a e → IsPlanExplained map text e

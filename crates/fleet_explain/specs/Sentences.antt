@@ -5,11 +5,14 @@ use Rattle.fleet_book.specs.declared.verdict.Verdict.TheVariants as verdict
 use Rattle.fleet_book.specs.Refusals.{refusal_code, verdict_name}
 use Rattle.fleet_map.specs.declared.fault.MapFault.{MapFault}
 use Rattle.fleet_map.specs.declared.fault.MapFault.TheVariants as map
-use Rattle.fleet_trace.specs.declared.fault.TraceFault.{TraceFault}
-use Rattle.fleet_trace.specs.declared.fault.TraceFault.TheVariants as trace
+use Rattle.fleet_trace.specs.declared.part.OpeningPart.{OpeningPart}
+use Rattle.fleet_trace.specs.declared.part.OpeningPart.TheVariants as opening
+use Rattle.fleet_trace.specs.declared.read.form.FormPart.{FormPart}
+use Rattle.fleet_trace.specs.declared.read.form.FormPart.TheVariants as form
 use Rattle.fleet_check.specs.declared.fault.StepFault.{StepFault}
 use Rattle.fleet_check.specs.declared.fault.StepFault.TheVariants as step
 use Rattle.fleet_explain.specs.declared.arrival.ArrivalName.{ArrivalName}
+use Rattle.fleet_explain.specs.declared.stamp.RobotStamp.{RobotStamp}
 use Rattle.fleet_explain.specs.declared.detail.Detail.{Detail}
 use Rattle.fleet_explain.specs.declared.detail.Detail.TheVariants as detail
 use Rattle.fleet_explain.specs.declared.entry.EntryKind.{EntryKind}
@@ -55,11 +58,14 @@ start_text width (start.Outside robot cell cells) =
     codes "in its line `robots`, robot " ++ decimal robot ++ codes " starts on cell " ++ decimal cell ++ codes ", which is outside of the map: its cells are below " ++ decimal cells
 start_text width (start.Shared first second cell) = codes "in its line `robots`, robots " ++ decimal first ++ codes " and " ++ decimal second ++ codes " both start on " ++ cell_text width cell
 
-abbrev pub trace_text : TraceFault → List ℕ
-trace_text trace.NotJson = codes "it is not UTF-8, or not JSON, or nested deeper than 127"
-trace_text trace.Version = codes "the number under `version` is not 1 or 2"
-trace_text trace.Shape = codes "it is JSON, but not in the form of a trace, an object with `version`, `chapter`, `opening` and `entries`"
-trace_text trace.NoMemory = codes "out of memory"
+-- which part of a JSON value is not in the form of a trace
+abbrev pub form_text : FormPart → List ℕ
+form_text form.Value = codes "it is JSON, but no object with a whole number under `version`"
+form_text form.Members = codes "its keys are not `version`, `chapter`, `opening` and `entries`, and no other"
+form_text form.Chapter = codes "under `chapter` is no number from 0 to 4294967295"
+form_text form.Opening = codes "under `opening` is no object with `clients`, `life`, `queue`, `robots` and `tick`, and no other key, each in its form"
+form_text form.Entries = codes "under `entries` is no array"
+form_text (form.Entry n) = codes "entry " ++ (decimal n ++ codes " is not in the form of a take, a tick or a shut: `[\"take\",CLIENT,ORDER,VERDICT]`, `[\"tick\",CELLS,ARRIVALS,FAREWELLS]`, `[\"shut\",ROBOT]` or `[\"shut\",ROBOT,STAMP]`")
 
 abbrev pub kind_text : EntryKind → List ℕ
 kind_text kind.Opening = codes "the opening"
@@ -77,6 +83,21 @@ rule_text rule =
     else if rule == 6 then codes "the farewells are not those that are due"
     else if rule == 7 then codes "a stamp is outside of its robot's law"
     else codes "the robot cannot be shut"
+
+-- which part of an opening is not in order
+abbrev pub opening_text : OpeningPart → List ℕ
+opening_text opening.Robots = codes "there are not 1 to 512 robots"
+opening_text opening.Clients = codes "there are not 1 to 64 clients"
+opening_text opening.Queue = codes "`queue` is not from 1 to 65536"
+opening_text opening.Life = codes "`life` is not from 1 to 1099511627776"
+opening_text opening.Cells = codes "two robots are on one cell, or a robot is on no floor"
+opening_text (opening.Robot r) = codes "robot " ++ (decimal r ++ codes " has a law, a wait or an errand that no robot has there")
+opening_text (opening.Client c) = codes "client " ++ (decimal c ++ codes " has counts that no client has there")
+opening_text (opening.Names c) = codes "two errands of client " ++ (decimal c ++ codes " have one number, or their numbers do not rise on a robot")
+
+-- a stamp, and what its robot's law allows
+abbrev pub stamp_text : RobotStamp → List ℕ
+stamp_text s = codes "robot " ++ (decimal s.robot ++ (codes "'s stamp " ++ (decimal s.stamp ++ (codes " is not from " ++ (decimal s.low ++ (codes " to " ++ decimal s.high))))))
 
 -- the first fault of a step
 abbrev pub step_text : StepFault → List ℕ
@@ -106,12 +127,14 @@ verdict_text v = answer_text (refusal_code v) v
 
 abbrev pub detail_text : Detail → List ℕ
 detail_text detail.Nothing = []
+detail_text (detail.Opening part) = codes ": " ++ opening_text part
 detail_text (detail.Due v) = codes ": `" ++ verdict_text v ++ codes "` is due"
 detail_text (detail.Step fault) = codes ": " ++ step_text fault
 detail_text (detail.Missing d) = codes ": " ++ arrival_text d ++ codes " is due, and not shown"
 detail_text (detail.Extra d) = codes ": " ++ arrival_text d ++ codes " is shown, and not due"
 detail_text (detail.MissingFarewell robot) = codes ": robot " ++ decimal robot ++ codes "'s is due, and not shown"
 detail_text (detail.ExtraFarewell robot) = codes ": robot " ++ decimal robot ++ codes "'s is shown, and not due"
+detail_text (detail.Stamp s) = codes ": " ++ stamp_text s
 detail_text (detail.Clients count) = codes ": the number of clients is " ++ decimal count
 detail_text (detail.Robots count) = codes ": the number of robots is " ++ decimal count
 detail_text detail.ShutBefore = codes ": it is shut already"
@@ -139,5 +162,7 @@ sentence (explanation.Letter row column letter) = codes "the map: row " ++ decim
 sentence (explanation.Script n f) = codes "the script: line " ++ decimal n ++ codes ": " ++ line_text f
 sentence (explanation.Unserved n clients) = unserved_text n clients
 sentence (explanation.Start f width) = codes "the script: " ++ start_text width f
-sentence (explanation.Trace f) = codes "the trace: " ++ trace_text f
+sentence (explanation.NotJson position) = codes "the trace: it is not UTF-8, or not JSON, or nested deeper than 127: its reader stopped at line " ++ (decimal position.line ++ (codes ", column " ++ decimal position.column))
+sentence explanation.Version = codes "the trace: the number under `version` is not 1 or 2"
+sentence (explanation.Form part) = codes "the trace: " ++ form_text part
 sentence (explanation.Illegal at rule kind detail) = codes "the trace: entry " ++ decimal at ++ codes ", " ++ kind_text kind ++ codes ": " ++ rule_text rule ++ more_text rule detail

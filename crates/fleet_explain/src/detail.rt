@@ -10,11 +10,12 @@ ghost use Rattle.fleet_explain.specs.Details.{IsVerdictDetail, IsStepDetail, why
 
 use crate::arrival::{ArrivalName, arrivals_at};
 use crate::farewell::farewells_at;
+use crate::stamp::{RobotStamp, stamp_at};
 use fleet_book::{Order, Verdict};
 use fleet_check::{StepFault, check_step};
 use fleet_grid::Grid;
 use fleet_history::{Chapter, Entry, RobotState};
-use fleet_trace::verdict_after;
+use fleet_trace::{OpeningPart, opening_fault, verdict_after};
 use std::alloc::{AllocError, Global};
 
 /// Details about an entry that breaks a rule.
@@ -22,6 +23,8 @@ use std::alloc::{AllocError, Global};
 pub enum Detail {
     /// Nothing.
     Nothing,
+    /// The first part of the opening that is not in order.
+    Opening(OpeningPart),
     /// The verdict that its order gets.
     Due(Verdict),
     /// The first fault of its step.
@@ -34,6 +37,8 @@ pub enum Detail {
     MissingFarewell(u32),
     /// The entry shows the farewell of this robot, and it is not due.
     ExtraFarewell(u32),
+    /// The first stamp of the entry that is outside of its robot's law, those of arrivals before those of farewells.
+    Stamp(RobotStamp),
     /// The take is of a client that there is not: the trace has this many.
     Clients(u64),
     /// The shut is of a robot that there is not: the trace has this many.
@@ -150,6 +155,17 @@ fn shut_at(grid: &Grid, chapter: &Chapter, at: u64) -> Detail
     }
 }
 
+/// Which part of the opening that breaks the first rule is not in order.
+fn opening_at(alloc: Global, grid: &Grid, chapter: &Chapter, at: u64) -> Result<Detail, AllocError>
+    requires { IsFirstIllegal grid.now (history_of chapter.now) at 1 }
+    ensures { IfOk result (λ detail. IsDetail grid.now (history_of chapter.now) at 1 detail) }
+{
+    match opening_fault(alloc, grid, &chapter.opening)? {
+        Some(part) => Ok(Detail::Opening(part)),
+        None => Ok(Detail::Nothing),
+    }
+}
+
 /// What more there is to say of the first entry that breaks a rule.
 pub(crate) fn detail_of(
     alloc: Global,
@@ -162,11 +178,13 @@ pub(crate) fn detail_of(
     ensures { IfOk result (λ detail. IsDetail grid.now (history_of chapter.now) at rule detail) }
 {
     match rule {
+        1 => opening_at(alloc, grid, chapter, at),
         2 => Ok(Detail::Clients(chapter.opening.clients.len() as u64)),
         3 => verdict_at(alloc, grid, chapter, at),
         4 => step_at(alloc, grid, chapter, at),
         5 => arrivals_at(alloc, grid, chapter, at),
         6 => farewells_at(alloc, grid, chapter, at),
+        7 => Ok(stamp_at(grid, chapter, at)),
         8 => Ok(shut_at(grid, chapter, at)),
         _ => Ok(Detail::Nothing),
     }

@@ -5,10 +5,12 @@ ghost use Rattle.fleet_map.specs.Form.{HasSides};
 ghost use Rattle.fleet_map.specs.Grammar.{view, map_of, Fails};
 ghost use Rattle.fleet_history.specs.History.{history_of};
 ghost use Rattle.fleet_script.specs.Shown.{plan};
-ghost use Rattle.fleet_explain.specs.Explained.{IsNoMap, IsMapExplained, IsScriptExplained, IsScriptOn, IsServedAs, IsTraceExplained, IsJudgedAs};
+ghost use Rattle.fleet_trace.specs.Reads.{IsTraceFault};
+ghost use Rattle.fleet_explain.specs.Explained.{IsNoMap, IsNoTrace, IsMapExplained, IsScriptExplained, IsScriptOn, IsServedAs, IsTraceExplained, IsJudgedAs};
 
 use crate::detail::{Detail, detail_of};
 use crate::entry::{EntryKind, kind_at};
+use crate::json::{Position, stop_of};
 use crate::line::{LineFault, fault_at, letter_at};
 use crate::opening::{StartFault, start_fault};
 use crate::served::first_unserved;
@@ -16,7 +18,7 @@ use fleet_grid::Grid;
 use fleet_history::Chapter;
 use fleet_map::{MapFault, MapText, read_map};
 use fleet_script::{Script, ScriptFault, read_script};
-use fleet_trace::{JudgeFault, TraceFault, judge, read_trace};
+use fleet_trace::{FormPart, JudgeFault, TraceFault, form_fault, judge, read_trace};
 use std::alloc::{AllocError, Global};
 
 /// What is wrong with a map, and with a script or a trace on it.
@@ -48,8 +50,12 @@ pub enum Explanation {
         fault: StartFault,
         width: u32,
     },
-    /// The bytes tell no trace.
-    Trace(TraceFault),
+    /// The bytes of the trace are not UTF-8, or not JSON, or nested deeper than 127. Their reader stopped here.
+    NotJson(Position),
+    /// The number under `version` is not that of a known version.
+    Version,
+    /// The bytes are JSON, and this part is not in the form of a trace.
+    Form(FormPart),
     /// The entry `at`, from 1, is the first that breaks a rule, and `rule` the first that it breaks; at 0 the opening.
     Illegal {
         at: u64,
@@ -171,6 +177,30 @@ fn chapter_explanation(
     }
 }
 
+/// What is wrong with bytes that tell no trace, for this reason.
+fn text_explanation(
+    alloc: Global,
+    trace: &[u8],
+    fault: TraceFault,
+) -> Result<Explanation, AllocError>
+    requires { IsTraceFault trace.now fault }
+    ensures { IfOk result (IsNoTrace trace.now) }
+{
+    match fault {
+        TraceFault::NotJson => {
+            let position = stop_of(alloc, trace)?;
+            Ok(Explanation::NotJson(position))
+        }
+        TraceFault::Version => Ok(Explanation::Version),
+        TraceFault::Shape => match form_fault(alloc, trace)? {
+            Some(part) => Ok(Explanation::Form(part)),
+            // (never: it is JSON of a known version that tells no trace)
+            None => Ok(Explanation::Version),
+        },
+        TraceFault::NoMemory => Err(AllocError),
+    }
+}
+
 /// What is wrong with a map or with a trace on it: first whether the map can be read, then the trace, then whether it
 /// is legal on the map. The only error is out of memory.
 pub fn explain_trace(alloc: Global, map: &[u8], trace: &[u8]) -> Result<Explanation, AllocError>
@@ -182,7 +212,6 @@ pub fn explain_trace(alloc: Global, map: &[u8], trace: &[u8]) -> Result<Explanat
     };
     match read_trace(alloc, trace) {
         Ok(chapter) => chapter_explanation(alloc, floor, &chapter),
-        Err(TraceFault::NoMemory) => Err(AllocError),
-        Err(fault) => Ok(Explanation::Trace(fault)),
+        Err(fault) => text_explanation(alloc, trace, fault),
     }
 }

@@ -2,13 +2,15 @@
 
 ghost use Rattle.std.specs.Prelude.{◌≡◌, ◌≤◌, length, slice_index, IfOk};
 ghost use Rattle.fleet_plans.specs.Valid.{place_at};
-ghost use Rattle.fleet_explain.specs.Plans.{robot_of, misplaced, plan_explained, IsPlanExplained};
+ghost use Rattle.fleet_plans.specs.Form.{form_of};
+ghost use Rattle.fleet_explain.specs.Plans.{robot_of, misplaced, IsJsonSaid, IsSaid, IsPlanExplained};
 
 use crate::explanation::{Explanation, map_explanation};
+use crate::json::{Position, stop_of};
 use fleet_check::StepFault;
 use fleet_map::read_map;
 use fleet_plans::{
-    GoalFault, HeadFault, MOST_PLAN_BYTES, Placements, PlanAnswer, PlanFault, RunnersFault,
+    GoalFault, HeadFault, MOST_PLAN_BYTES, Placements, PlanAnswer, PlanFault, RunnersFault, Study,
     TextForm, form_of, study_texts,
 };
 use std::alloc::{AllocError, Global};
@@ -41,7 +43,9 @@ pub enum PlanExplanation {
     Cut(u32),
     /// The line of the scenario, from 1, is not allowed where it is.
     Scenario(u32),
-    /// The text begins as JSON and is not a plan.
+    /// The text begins as JSON and is not UTF-8, or not JSON, or nested deeper than 127. Its reader stopped here.
+    NotJson(Position),
+    /// The text is JSON and not a plan.
     Json(RunnersFault),
     /// The plan is not the one that the head of its text says.
     Head(HeadFault),
@@ -85,21 +89,45 @@ fn fault_at(width: u32, places: &Placements, fault: PlanFault) -> Misplaced
     }
 }
 
-/// What is wrong with a text in this form, of which this is said.
-fn explained(form: TextForm, width: u32, places: &Placements, answer: PlanAnswer) -> PlanExplanation
-    ensures { result ≡ plan_explained form width places.now answer }
+/// What is wrong with a text that begins as JSON and is not a plan.
+fn json_explained(
+    alloc: Global,
+    text: &[u8],
+    fault: RunnersFault,
+) -> Result<PlanExplanation, AllocError>
+    ensures { IfOk result (IsJsonSaid fault) }
 {
-    match answer {
+    match fault {
+        RunnersFault::NotJson => {
+            let position = stop_of(alloc, text)?;
+            Ok(PlanExplanation::NotJson(position))
+        }
+        RunnersFault::Key(key) => Ok(PlanExplanation::Json(RunnersFault::Key(key))),
+        RunnersFault::Item(key, robot) => {
+            Ok(PlanExplanation::Json(RunnersFault::Item(key, robot)))
+        }
+        RunnersFault::NoMemory => Ok(PlanExplanation::Json(RunnersFault::NoMemory)),
+    }
+}
+
+/// What is wrong with a text, of which this is said.
+fn explained(alloc: Global, text: &[u8], study: &Study) -> Result<PlanExplanation, AllocError>
+    ensures { IfOk result (IsSaid (form_of text.now) study.now.width study.now.places study.now.answer) }
+{
+    let explanation = match study.answer {
         PlanAnswer::Map(fault) => PlanExplanation::Map(Explanation::Map(fault)),
-        PlanAnswer::Text(line) => PlanExplanation::Line(line, form),
+        PlanAnswer::Text(line) => PlanExplanation::Line(line, form_of(text)),
         PlanAnswer::Cut(line) => PlanExplanation::Cut(line),
         PlanAnswer::Scenario(line) => PlanExplanation::Scenario(line),
-        PlanAnswer::Json(fault) => PlanExplanation::Json(fault),
+        PlanAnswer::Json(fault) => return json_explained(alloc, text, fault),
         PlanAnswer::Head(fault) => PlanExplanation::Head(fault),
         PlanAnswer::Valid(_report) => PlanExplanation::Fine,
-        PlanAnswer::Invalid(fault) => PlanExplanation::Placed(fault_at(width, places, fault)),
+        PlanAnswer::Invalid(fault) => {
+            PlanExplanation::Placed(fault_at(study.width, &study.places, fault))
+        }
         PlanAnswer::Goals { time: _, fault } => PlanExplanation::Goals(fault),
-    }
+    };
+    Ok(explanation)
 }
 
 /// What is wrong with a map or with a plan on it: first whether the map can be read, then the plan's text, then the
@@ -116,5 +144,5 @@ pub fn explain_plan(alloc: Global, map: &[u8], text: &[u8]) -> Result<PlanExplan
         }
     };
     let study = study_texts(alloc, map, text)?;
-    Ok(explained(form_of(text), study.width, &study.places, study.answer))
+    explained(alloc, text, &study)
 }

@@ -91,9 +91,7 @@ impl fmt::Display for RunnersText {
 
     fn fmt<W: fmt::Write>(&self, f: &mut fmt::Formatter<W>) -> fmt::Result {
         match self.0 {
-            RunnersFault::NotJson => {
-                f.write_str("it is not UTF-8, or not JSON, or nested deeper than 127")
-            }
+            RunnersFault::NotJson => { f.write_str("it is not JSON") }
             RunnersFault::Key(key) => {
                 let word = key.word();
                 write!(f, "`{word}` is missing, or what it has is not in its form")
@@ -167,6 +165,13 @@ impl fmt::Display for PlanExplanation {
             ),
             PlanExplanation::Scenario(line) => {
                 write!(f, "the scenario: line {line} is not allowed where it is")
+            }
+            PlanExplanation::NotJson(stop) => {
+                let (line, column) = (stop.line, stop.column);
+                write!(
+                    f,
+                    "the plan: it is not UTF-8, or not JSON, or nested deeper than 127: its reader stopped at line {line}, column {column}"
+                )
             }
             PlanExplanation::Json(fault) => {
                 let text = RunnersText(fault);

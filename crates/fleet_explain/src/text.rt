@@ -5,7 +5,7 @@ ghost use Rattle.fleet_explain.specs.Sentences.{map_text, letter_text, sentence}
 
 use crate::explanation::Explanation;
 use crate::script_text::{StartText, UnservedText};
-use crate::trace_text::{MoreText, TraceText, rule_text};
+use crate::trace_text::{FormText, MoreText, rule_text};
 use fleet_map::MapFault;
 use std::fmt::{self, Display};
 
@@ -79,9 +79,19 @@ impl fmt::Display for Explanation {
                 let start = StartText(width, fault);
                 write!(f, "the script: {start}")
             }
-            Explanation::Trace(fault) => {
-                let trace = TraceText(fault);
-                write!(f, "the trace: {trace}")
+            Explanation::NotJson(position) => {
+                let (line, column) = (position.line, position.column);
+                write!(
+                    f,
+                    "the trace: it is not UTF-8, or not JSON, or nested deeper than 127: its reader stopped at line {line}, column {column}"
+                )
+            }
+            Explanation::Version => f.write_str(
+                "the trace: the number under `version` is not 1 or 2",
+            ),
+            Explanation::Form(part) => {
+                let part = FormText(part);
+                write!(f, "the trace: {part}")
             }
             Explanation::Illegal {
                 at,

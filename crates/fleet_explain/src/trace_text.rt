@@ -1,32 +1,42 @@
 //! What is wrong with a trace, as a sentence.
 
 ghost use Rattle.std.specs.Prelude.{◌≡◌, Some};
-ghost use Rattle.fleet_explain.specs.Sentences.{trace_text, kind_text, rule_text, step_text, arrival_text, detail_text, is_nothing, more_text};
+ghost use Rattle.fleet_explain.specs.Sentences.{form_text, kind_text, rule_text, opening_text, stamp_text, step_text, arrival_text, detail_text, is_nothing, more_text};
 
 use crate::arrival::ArrivalName;
 use crate::detail::Detail;
 use crate::entry::EntryKind;
+use crate::stamp::RobotStamp;
 use crate::verdict::VerdictText;
 use fleet_check::StepFault;
-use fleet_trace::TraceFault;
+use fleet_trace::{FormPart, OpeningPart};
 use std::fmt::{self, Display};
 
-/// Why a text tells no trace.
+/// Which part of a JSON value is not in the form of a trace.
 #[derive(Clone, Copy)]
-pub(crate) struct TraceText(pub(crate) TraceFault);
+pub(crate) struct FormText(pub(crate) FormPart);
 
-impl fmt::Display for TraceText {
-    ghost output = { λ t. Some (trace_text t.0) };
+impl fmt::Display for FormText {
+    ghost output = { λ t. Some (form_text t.0) };
 
     fn fmt<W: fmt::Write>(&self, f: &mut fmt::Formatter<W>) -> fmt::Result {
-        f.write_str(match self.0 {
-            TraceFault::NotJson => "it is not UTF-8, or not JSON, or nested deeper than 127",
-            TraceFault::Version => "the number under `version` is not 1 or 2",
-            TraceFault::Shape => {
-                "it is JSON, but not in the form of a trace, an object with `version`, `chapter`, `opening` and `entries`"
-            }
-            TraceFault::NoMemory => "out of memory",
-        })
+        match self.0 {
+            FormPart::Value => f.write_str(
+                "it is JSON, but no object with a whole number under `version`",
+            ),
+            FormPart::Members => f.write_str(
+                "its keys are not `version`, `chapter`, `opening` and `entries`, and no other",
+            ),
+            FormPart::Chapter => f.write_str("under `chapter` is no number from 0 to 4294967295"),
+            FormPart::Opening => f.write_str(
+                "under `opening` is no object with `clients`, `life`, `queue`, `robots` and `tick`, and no other key, each in its form",
+            ),
+            FormPart::Entries => f.write_str("under `entries` is no array"),
+            FormPart::Entry(entry) => write!(
+                f,
+                "entry {entry} is not in the form of a take, a tick or a shut: `[\"take\",CLIENT,ORDER,VERDICT]`, `[\"tick\",CELLS,ARRIVALS,FAREWELLS]`, `[\"shut\",ROBOT]` or `[\"shut\",ROBOT,STAMP]`"
+            ),
+        }
     }
 }
 
@@ -56,6 +66,49 @@ pub(crate) fn rule_text(rule: u8) -> &'static str
         6 => "the farewells are not those that are due",
         7 => "a stamp is outside of its robot's law",
         _ => "the robot cannot be shut",
+    }
+}
+
+/// Which part of an opening is not in order.
+#[derive(Clone, Copy)]
+struct OpeningText(OpeningPart);
+
+impl fmt::Display for OpeningText {
+    ghost output = { λ t. Some (opening_text t.0) };
+
+    fn fmt<W: fmt::Write>(&self, f: &mut fmt::Formatter<W>) -> fmt::Result {
+        match self.0 {
+            OpeningPart::Robots => f.write_str("there are not 1 to 512 robots"),
+            OpeningPart::Clients => f.write_str("there are not 1 to 64 clients"),
+            OpeningPart::Queue => f.write_str("`queue` is not from 1 to 65536"),
+            OpeningPart::Life => f.write_str("`life` is not from 1 to 1099511627776"),
+            OpeningPart::Cells => f.write_str(
+                "two robots are on one cell, or a robot is on no floor",
+            ),
+            OpeningPart::Robot(robot) => write!(
+                f,
+                "robot {robot} has a law, a wait or an errand that no robot has there"
+            ),
+            OpeningPart::Client(client) => {
+                write!(f, "client {client} has counts that no client has there")
+            }
+            OpeningPart::Names(client) => write!(
+                f,
+                "two errands of client {client} have one number, or their numbers do not rise on a robot"
+            ),
+        }
+    }
+}
+
+impl fmt::Display for RobotStamp {
+    ghost output = { λ s. Some (stamp_text s) };
+
+    fn fmt<W: fmt::Write>(&self, f: &mut fmt::Formatter<W>) -> fmt::Result {
+        let (robot, stamp, low, high) = (self.robot, self.stamp, self.low, self.high);
+        write!(
+            f,
+            "robot {robot}'s stamp {stamp} is not from {low} to {high}"
+        )
     }
 }
 
@@ -102,6 +155,10 @@ impl fmt::Display for Detail {
     fn fmt<W: fmt::Write>(&self, f: &mut fmt::Formatter<W>) -> fmt::Result {
         match *self {
             Detail::Nothing => Ok(()),
+            Detail::Opening(part) => {
+                let opening = OpeningText(part);
+                write!(f, ": {opening}")
+            }
             Detail::Due(verdict) => {
                 let due = VerdictText(verdict);
                 write!(f, ": `{due}` is due")
@@ -116,6 +173,7 @@ impl fmt::Display for Detail {
                 write!(f, ": robot {robot}'s is due, and not shown")
             }
             Detail::ExtraFarewell(robot) => { write!(f, ": robot {robot}'s is shown, and not due") }
+            Detail::Stamp(stamp) => write!(f, ": {stamp}"),
             Detail::Clients(count) => write!(f, ": the number of clients is {count}"),
             Detail::Robots(count) => write!(f, ": the number of robots is {count}"),
             Detail::ShutBefore => f.write_str(": it is shut already"),

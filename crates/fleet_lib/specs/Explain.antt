@@ -23,7 +23,9 @@ status_of (explanation.Map f) = 4
 status_of (explanation.Letter row column letter) = 4
 status_of (explanation.Script n f) = 5
 status_of (explanation.Start f width) = 5
-status_of (explanation.Trace f) = 6
+status_of (explanation.NotJson position) = 6
+status_of explanation.Version = 6
+status_of (explanation.Form part) = 6
 status_of (explanation.Illegal at rule kind detail) = 6
 
 -- the sentence, and a line feed
@@ -46,6 +48,7 @@ plan_status (plan.Map e) = 4
 plan_status (plan.Line n form) = 6
 plan_status (plan.Cut n) = 6
 plan_status (plan.Scenario n) = 5
+plan_status (plan.NotJson stop) = 6
 plan_status (plan.Json f) = 6
 plan_status (plan.Head f) = 6
 plan_status (plan.Placed m) = 6

@@ -4,7 +4,6 @@ use Rattle.std.specs.declared.alloc.Global.{Global}
 use Rattle.fleet_text.specs.Transfer.{AppendsPrefix}
 use Rattle.fleet_text.specs.declared.input.InputFault.TheVariants as input_fault
 use Rattle.fleet_explain.specs.declared.explanation.Explanation.{Explanation}
-use Rattle.fleet_explain.specs.declared.explanation.Explanation.TheVariants as explanation
 use Rattle.fleet_explain.specs.Explained.{IsTraceExplained}
 use Rattle.fleet_explain.specs.Sentences.{sentence}
 use Rattle.fleet_reopen.specs.declared.fault.ReopenFault.TheVariants as reopen_fault
@@ -54,13 +53,18 @@ reason_text (reason.Explained e) = sentence e
 reason_text (reason.Number number) = codes "it is chapter " ++ decimal number
 reason_text (reason.Resume f) = resume_text f
 
+-- what `fleet explain` says of the text
+abbrev pub IsExplained : List ℕ → List ℕ → Reason → Type 0
+IsExplained map text r = (e : Explanation) × IsTraceExplained map text e × (r ≡ reason.Explained e)
+
 -- what is said of a fault of a chapter: where it is not legal on the map, in the words of `fleet explain`
 abbrev pub IsResumeReason : Bool → List ℕ → List ℕ → ResumeFault → Reason → Type 0
-IsResumeReason true map text f r = (e : Explanation) × IsTraceExplained map text e × (r ≡ reason.Explained e)
+IsResumeReason true map text f r = IsExplained map text r
 IsResumeReason false map text f r = r ≡ reason.Resume f
 
+-- what is said of a fault: where the text tells no trace, too, in the words of `fleet explain`
 abbrev pub IsReasonOf : List ℕ → List ℕ → KeptFault → Reason → Type 0
-IsReasonOf map text (kept_fault.Trace f) r = r ≡ reason.Explained (explanation.Trace f)
+IsReasonOf map text (kept_fault.Trace f) r = IsExplained map text r
 IsReasonOf map text (kept_fault.Number number) r = r ≡ reason.Number number
 IsReasonOf map text (kept_fault.Resume f) r = IsResumeReason (is_illegal f) map text f r
 

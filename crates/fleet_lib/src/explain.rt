@@ -24,7 +24,10 @@ fn status_of(explanation: Explanation) -> u8
         Explanation::Fine | Explanation::Unserved { .. } => 0,
         Explanation::Map(_) | Explanation::Letter { .. } => 4,
         Explanation::Script { .. } | Explanation::Start { .. } => 5,
-        Explanation::Trace(_) | Explanation::Illegal { .. } => 6,
+        Explanation::NotJson(_)
+        | Explanation::Version
+        | Explanation::Form(_)
+        | Explanation::Illegal { .. } => 6,
     }
 }
 
@@ -71,6 +74,7 @@ fn plan_status(explanation: PlanExplanation) -> u8
         PlanExplanation::Scenario(_) => 5,
         PlanExplanation::Line(..)
         | PlanExplanation::Cut(_)
+        | PlanExplanation::NotJson(_)
         | PlanExplanation::Json(_)
         | PlanExplanation::Head(_)
         | PlanExplanation::Placed(_)

@@ -131,12 +131,13 @@ fn is_memory(fault: KeptFault) -> bool
     )
 }
 
-/// The reason to print for a fault: for a chapter that is not legal, the sentence of `explain_trace`.
+/// The reason to print for a fault: for a text that tells no trace, and for a chapter that is not legal, the sentence of
+/// `explain_trace`.
 fn reason_of(alloc: Global, map: &[u8], text: &[u8], fault: KeptFault) -> Result<Reason, AllocError>
     ensures { IfOk result (λ reason. IsReasonOf map.now text.now fault reason) }
 {
     match fault {
-        KeptFault::Trace(fault) => Ok(Reason::Explained(Explanation::Trace(fault))),
+        KeptFault::Trace(_fault) => Ok(Reason::Explained(explain_trace(alloc, map, text)?)),
         KeptFault::Number(number) => Ok(Reason::Number(number)),
         KeptFault::Resume(fault) => {
             if is_illegal(fault) {

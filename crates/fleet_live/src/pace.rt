@@ -21,7 +21,7 @@ const MOST_MICROS: u64 = 2_000_000_000_000_000_000;
 const MINUTE: u64 = 60_000_000;
 
 /// The microseconds, or the greatest number of them that is counted.
-fn told_apart(micros: u64) -> u64
+fn capped_micros(micros: u64) -> u64
     ensures { result < 2 ^ 62 }
 {
     if micros < MOST_MICROS {
@@ -132,7 +132,7 @@ fn turn_now<N: OfficeName<Global>, R: Alloc<A = Global> + Clock + Wait, S: Chapt
         return Err(Stop::Limit);
     }
     let now = micros_since(rt, deadlines.start)?;
-    deadlines.turn = next_due(told_apart(deadlines.turn), period, told_apart(now));
+    deadlines.turn = next_due(capped_micros(deadlines.turn), period, capped_micros(now));
     say_counts(rt, keeper, &mut deadlines, &mut round.tally, now)?;
     round.deadlines = Some(deadlines);
     round.retry_from(now);

@@ -1,10 +1,10 @@
-//! Sentences that say what is at fault in a map, a script and a trace. Each names the fault that the grammar has there.
+//! Sentences that say what is at fault in a map and a script. Each names the fault that the grammar has there.
 
-use fleet_explain::{Explanation, explain_head, explain_map, explain_script, explain_trace};
+use fleet_explain::{Explanation, explain_head, explain_map, explain_script};
 use std::alloc::{AllocError, Global};
 
 /// A ring of eight cells.
-const MAP: &str = "type octile\nheight 3\nwidth 3\nmap\n...\n.@.\n...\n";
+pub(crate) const MAP: &str = "type octile\nheight 3\nwidth 3\nmap\n...\n.@.\n...\n";
 
 /// The sentence about the script.
 fn on_script(alloc: Global, script: &str) -> Result<String, AllocError> {
@@ -117,87 +117,4 @@ fn maps_are_explained(rt: HostRuntime) {
     let explanation = explain_map(alloc, escape.as_bytes()).expect(&rt, "memory");
     let sentence = format!(in alloc; "{explanation}").expect(&rt, "memory");
     assert!(rt; sentence.contains("column 2 has byte 27, which"));
-}
-
-/// What stands before and after the entries of a trace: one client, and robots on cells 0 and 8, without errands.
-const HEAD: &str = r#"{"chapter":0,"entries":["#;
-
-const OPENING: &str =
-    r#"],"opening":{"clients":[[0,0,0,false]],"life":1000000,"queue":16,"robots":[[0,false,null,[],[0,0],[0,0]],[8,false,null,[],[0,0],[0,0]]],"tick":18446744073709551615},"version":2}"#;
-
-/// Entries of traces, and what is wrong with the trace of each.
-const TRACES: [(&str, &str); 14] = [
-    (
-        r#"["tick",[1,7],[],[]],["tick",[4,6],[],[]]"#,
-        "the trace: entry 2, a tick: the step has a conflict, or leaves the floor: robot 0 comes to no floor",
-    ),
-    (
-        r#"["take",0,["go",0,1],["accepted",1]],["tick",[1,8],[],[]]"#,
-        "the trace: entry 2, a tick: the arrivals are not those that are due: robot 0's with errand 1 of client 0 is due, and not shown",
-    ),
-    (
-        r#"["take",0,["go",0,1],["accepted",1]],["tick",[1,8],[[0,0,1,0]],[]],["tick",[1,8],[[0,0,1,0]],[]]"#,
-        "the trace: entry 3, a tick: the arrivals are not those that are due: robot 0's with errand 1 of client 0 is shown, and not due",
-    ),
-    (
-        r#"["take",0,["go",0,4],["accepted",1]]"#,
-        "the trace: entry 1, a take of client 0: the verdict is not the one that the order gets: `refused 5 blocked` is due",
-    ),
-    (
-        r#"["take",0,["go",0,1],["accepted",1]],["tick",[1,8],[[0,0,1,0]],[]],["take",0,["go",1,7],["accepted",1]]"#,
-        "the trace: entry 3, a take of client 0: the verdict is not the one that the order gets: `accepted 2` is due",
-    ),
-    (
-        r#"["take",0,["close"],["closed"]],["take",0,["close"],["closed"]]"#,
-        "the trace: entry 2, a take of client 0: the verdict is not the one that the order gets: `refused 1 client-closed` is due",
-    ),
-    (
-        r#"["take",0,["go",0,1],["accepted",1]],["shut",0],["tick",[1,8],[[0,0,1,0]],[]]"#,
-        "the trace: entry 3, a tick: the farewells are not those that are due: robot 0's is due, and not shown",
-    ),
-    (
-        r#"["take",0,["go",0,1],["accepted",1]],["tick",[1,8],[[0,0,1,0]],[[0,0]]]"#,
-        "the trace: entry 2, a tick: the farewells are not those that are due: robot 0's is shown, and not due",
-    ),
-    (
-        r#"["shut",1]"#,
-        "the trace: entry 1, a shut of robot 1: the farewells are not those that are due: robot 1's is due, and not shown",
-    ),
-    (
-        r#"["take",0,["go",0,1],["accepted",1]],["shut",0,0]"#,
-        "the trace: entry 2, a shut of robot 0: the farewells are not those that are due: robot 0's is shown, and not due",
-    ),
-    (
-        r#"["take",0,["go",0,1],["accepted",1]],["tick",[1,8],[[0,0,1,0],[0,0,1,0]],[]]"#,
-        "the trace: entry 2, a tick: the arrivals are not those that are due: each is shown that is due, but in another order or more than once",
-    ),
-    (
-        r#"["take",1,["close"],["closed"]]"#,
-        "the trace: entry 1, a take of client 1: there is no such client: the number of clients is 1",
-    ),
-    (
-        r#"["shut",2]"#,
-        "the trace: entry 1, a shut of robot 2: the robot cannot be shut: the number of robots is 2",
-    ),
-    (
-        r#"["shut",1,0],["shut",1,0]"#,
-        "the trace: entry 2, a shut of robot 1: the robot cannot be shut: it is shut already",
-    ),
-];
-
-/// The sentence about the trace with these entries.
-fn on_trace(alloc: Global, entries: &str) -> Result<String, AllocError> {
-    let trace = format!(in alloc; "{HEAD}{entries}{OPENING}")?;
-    let explanation = explain_trace(alloc, MAP.as_bytes(), trace.as_bytes())?;
-    format!(in alloc; "{explanation}")
-}
-
-#[test]
-fn entries_of_traces_are_explained(rt: HostRuntime) {
-    let alloc = rt.alloc();
-    for at in 0..TRACES.len() {
-        let (entries, expected) = TRACES[at];
-        let sentence = on_trace(alloc, entries).expect(&rt, "memory");
-        assert_eq!(rt; sentence.as_str(), expected, "at {at}");
-    }
 }

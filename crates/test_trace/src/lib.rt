@@ -23,3 +23,5 @@ mod planted;
 mod reopened;
 #[cfg(test)]
 mod texts;
+#[cfg(test)]
+mod trace_explanations;

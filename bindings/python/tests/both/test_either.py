@@ -316,8 +316,9 @@ class Programs:
         fails("the limits `queue` and `life`" if self.kind is library.Fleet else "another `queue` or `life`", queue=4)
         fails("no chapter follows", chapters=1)
         text = name.read_text()
+        no_form = "the form of a trace" if self.kind is library.Fleet else "its keys are not `version`, `chapter`"
         for told, broken in (
-            ("not JSON", text[:-3]), ("the form of a trace", '{"version":2}'), ("it is chapter 5", text.replace('"chapter":0', '"chapter":5')),
+            ("not JSON", text[:-3]), (no_form, '{"version":2}'), ("it is chapter 5", text.replace('"chapter":0', '"chapter":5')),
             ("entry 1", text.replace('[0,3],[]', '[0,11],[]')),
         ):
             name.write_text(broken)

@@ -102,7 +102,7 @@ class ResumeTest(KeptChaptersTest):
     def test_wrong_map(self):
         self.on("robots 0 3\npost 0 go 0 8\ntake 0\ntick\n")
         self.map.write_text(WALLED)
-        self.refused(f"{self.traces}/chapter-0.json: the trace: entry 0, the opening: it is not in order", 6)
+        self.refused(f"{self.traces}/chapter-0.json: the trace: entry 0, the opening: it is not in order: two robots are on one cell, or a robot is on no floor", 6)
 
     def test_wrong_files(self):
         self.on("robots 0 8\npost 0 go 0 1\ntake 0\n")
@@ -110,12 +110,13 @@ class ResumeTest(KeptChaptersTest):
             self.on("look\n")
         last = self.traces / "chapter-2.json"
         whole = last.read_text()
+        not_json = "the trace: it is not UTF-8, or not JSON, or nested deeper than 127: its reader stopped at line 1, column "
         for text, why in (
-            ("no trace", "the trace: it is not UTF-8, or not JSON, or nested deeper than 127"),
-            ("", "the trace: it is not UTF-8, or not JSON, or nested deeper than 127"),
-            (whole[:-9], "the trace: it is not UTF-8, or not JSON, or nested deeper than 127"),
-            ('{"version":3}', "the trace: the number under `version` is that of no known version"),
-            ('{"version":2}', "the trace: it has not the form of a trace"),
+            ("no trace", f"{not_json}2"),
+            ("", f"{not_json}1"),
+            (whole[:-9], f"{not_json}{len(whole) - 8}"),
+            ('{"version":3}', "the trace: the number under `version` is not 1 or 2"),
+            ('{"version":2}', "the trace: its keys are not `version`, `chapter`, `opening` and `entries`, and no other"),
             (whole.replace('"chapter":2', '"chapter":7'), "it is chapter 7"),
         ):
             last.write_text(text)

@@ -9,5 +9,6 @@ pub returns-in-Ok-read_trace : goal.returns-in-Ok-read_trace
 returns-in-Ok-read_trace c =
     IfOk-weaker c.chapter_explanation.result _ _ (λ e is. trace_on c.args.map.now c.args.trace.now e (view c.in-Ok.floor) (trace_of c.in-Ok-read_trace.chapter) c.in-Ok.ensures.exact c.in-Ok-read_trace.ensures.found is) c.chapter_explanation.ensures
 
-pub returns : goal.returns
-returns c = trace_none c.args.map.now c.args.trace.now (view c.in-Ok.floor) c.in-Err-read_trace.fault c.in-Ok.ensures.exact c.in-Err-read_trace.ensures.fault
+pub returns-in-Err-read_trace : goal.returns-in-Err-read_trace
+returns-in-Err-read_trace c =
+    IfOk-weaker c.text_explanation.result _ _ (λ e is. trace_none c.args.map.now c.args.trace.now (view c.in-Ok.floor) e c.in-Ok.ensures.exact is) c.text_explanation.ensures
