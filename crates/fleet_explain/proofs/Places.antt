@@ -175,7 +175,7 @@ start_read (start.OffFloor robot cell) width = refl
 start_read (start.Outside robot cell cells) width = refl
 start_read (start.Shared first second cell) width = refl
 
-shapes : List ℕ
+abbrev shapes : List ℕ
 shapes = codes "is not in the form of a take, a tick or a shut: `[\"take\",CLIENT,ORDER,VERDICT]`, `[\"tick\",CELLS,ARRIVALS,FAREWELLS]`, `[\"shut\",ROBOT]` or `[\"shut\",ROBOT,STAMP]`"
 
 form_read : (part : FormPart) → IsInRange (form_place part) → place_by trace_file (sentence (explanation.Form part)) ≡ form_place part

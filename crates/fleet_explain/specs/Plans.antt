@@ -15,7 +15,7 @@ use Rattle.fleet_plans.specs.Study.{IsTextStudy}
 use Rattle.fleet_plans.specs.Valid.{place_at}
 use Rattle.fleet_explain.specs.declared.explanation.Explanation.{Explanation}
 use Rattle.fleet_explain.specs.declared.explanation.Explanation.TheVariants as explanation
-use Rattle.fleet_explain.specs.declared.json.Position.{Position}
+use Rattle.fleet_explain.specs.declared.position.Position.{Position}
 use Rattle.fleet_explain.specs.declared.plan.PlanExplanation.{PlanExplanation}
 use Rattle.fleet_explain.specs.declared.plan.PlanExplanation.TheVariants as plan
 use Rattle.fleet_explain.specs.declared.plan.Misplaced.{Misplaced}

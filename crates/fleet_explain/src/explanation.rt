@@ -10,9 +10,9 @@ ghost use Rattle.fleet_explain.specs.Explained.{IsNoMap, IsNoTrace, IsMapExplain
 
 use crate::detail::{Detail, detail_of};
 use crate::entry::{EntryKind, kind_at};
-use crate::json::{Position, stop_of};
 use crate::line::{LineFault, fault_at, letter_at};
 use crate::opening::{StartFault, start_fault};
+use crate::position::{Position, stop_of};
 use crate::served::first_unserved;
 use fleet_grid::Grid;
 use fleet_history::Chapter;

@@ -6,7 +6,7 @@ ghost use Rattle.fleet_plans.specs.Form.{form_of};
 ghost use Rattle.fleet_explain.specs.Plans.{robot_of, misplaced, IsJsonSaid, IsSaid, IsPlanExplained};
 
 use crate::explanation::{Explanation, map_explanation};
-use crate::json::{Position, stop_of};
+use crate::position::{Position, stop_of};
 use fleet_check::StepFault;
 use fleet_map::read_map;
 use fleet_plans::{

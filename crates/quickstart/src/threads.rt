@@ -15,45 +15,72 @@ use fleet_office::{Desk, Guest, Office, OfficeName, Ticker, clients_of, guests_o
 use std::alloc::{Alloc, Global};
 use std::marker::Brand;
 use std::sync::Wait;
-use std::sync::atomic::{AtomicU64, Ordering};
+use std::sync::atomic::{AtomicBool, AtomicU64, Ordering};
 use std::thread::{Threads, for_each_mut, join, yield_now};
 
 /// The cells to which each of the two clients sends a robot: client c sends robot c.
 const ERRANDS: [u32; 3] = [5, 1, 3];
 
+/// The errands of both clients.
+const ALL: u64 = 6;
+
 /// All loops end after this many rounds, since a proof needs a bound.
 const ROUNDS: u64 = 1_000_000_000;
 
-/// A client's thread: posts its errands, and collects until those of both clients are done.
-fn work<N: OfficeName<Global>>(guest: &mut Guest<N>, done: &AtomicU64) {
+/// What the threads tell one another.
+struct Day {
+    /// The errands that were posted.
+    posted: AtomicU64,
+    /// The arrivals that were collected.
+    done: AtomicU64,
+    /// Whether the ticker has ended.
+    is_over: AtomicBool,
+}
+
+/// A client's thread: posts its errands, and collects until the ticker has ended and nothing is left.
+fn work<N: OfficeName<Global>>(guest: &mut Guest<N>, day: &Day) {
     let robot = guest.number();
     for cell in ERRANDS {
-        let _number = guest.post(Order::Go { robot, cell });
+        if guest.post(Order::Go { robot, cell }).is_ok() {
+            day.posted.fetch_add(1, Ordering::SeqCst);
+        }
     }
     for _ in 0..ROUNDS {
+        let is_over = day.is_over.load(Ordering::SeqCst);
         match guest.collect() {
             Some(Notice::Verdict { .. }) => {}
             Some(Notice::Arrived { .. }) => {
-                done.fetch_add(1, Ordering::SeqCst);
+                day.done.fetch_add(1, Ordering::SeqCst);
             }
-            None if done.load(Ordering::SeqCst) == 6 => break,
+            None if is_over => break,
             None => yield_now(),
         }
     }
 }
 
-/// The ticker's thread: makes turns until all errands are done.
+/// The ticker's thread: makes turns while an errand that was posted has not arrived, until all have.
 fn tick<N: OfficeName<Global>, R: Alloc<A = Global> + Wait>(
     rt: &R,
     office: &Office<N>,
     ticker: &mut Ticker<N>,
-    done: &AtomicU64,
+    day: &Day,
 ) {
+    let mut arrived = 0u64;
     for _ in 0..ROUNDS {
-        if done.load(Ordering::SeqCst) == 6 || office.turn(rt, ticker).is_err() {
+        if arrived == ALL {
             break;
         }
+        if arrived == day.posted.load(Ordering::SeqCst) {
+            // (a turn would only add a tick to the history, whose chapter has room for so many)
+            yield_now();
+            continue;
+        }
+        match office.turn(rt, ticker) {
+            Ok(turn) => arrived = arrived.saturating_add(u64::from(turn.arrived)),
+            Err(_) => break,
+        }
     }
+    day.is_over.store(true, Ordering::SeqCst);
 }
 
 /// Lets each client and the ticker work in a thread of its own.
@@ -62,7 +89,7 @@ fn work_all<N: OfficeName<Global> + Send + Sync, R: Alloc<A = Global> + Threads 
     office: &Office<N>,
     guests: &mut [Guest<N>],
     ticker: &mut Ticker<N>,
-    done: &AtomicU64,
+    day: &Day,
 ) {
     join(
         rt,
@@ -70,9 +97,9 @@ fn work_all<N: OfficeName<Global> + Send + Sync, R: Alloc<A = Global> + Threads 
             rt,
             guests,
             2,
-            &|_number: usize, guest: &mut Guest<N>| work(guest, done),
+            &|_number: usize, guest: &mut Guest<N>| work(guest, day),
         ),
-        || tick(rt, office, ticker, done),
+        || tick(rt, office, ticker, day),
     );
 }
 
@@ -88,15 +115,19 @@ fn spend_day<
     let Ok(mut guests) = guests_of::<N, Global>(rt.alloc(), clients) else {
         bail!("out of memory")
     };
-    let done = AtomicU64::new(0);
-    work_all(rt, &office, guests.as_mut_slice(), &mut ticker, &done);
+    let day = Day {
+        posted: AtomicU64::new(0),
+        done: AtomicU64::new(0),
+        is_over: AtomicBool::new(false),
+    };
+    work_all(rt, &office, guests.as_mut_slice(), &mut ticker, &day);
     let Ok(clients) = clients_of::<N, Global>(rt.alloc(), guests) else {
         bail!("out of memory")
     };
     let Ok(end) = office.conclude(rt.alloc(), clients, vec![in rt.alloc(); ticker]?) else {
         bail!("the office did not end")
     };
-    println!(rt; "{} errands are done", done.load(Ordering::SeqCst))?;
+    println!(rt; "{} errands are done", day.done.load(Ordering::SeqCst))?;
     for (client, rest) in end.rest.iter().enumerate() {
         println!(rt; "client {client} has {} notices left", rest.len())?;
     }
