@@ -6,6 +6,7 @@ pub mod RoundTrip
 pub mod ErrandNames
 pub mod AllItems
 pub mod OpeningOrder
+pub mod OpeningParts
 pub mod EntryByEntry
 pub mod LikeOpenings
 pub mod CalmOpening

@@ -5,5 +5,6 @@ pub mod Version
 pub mod Told
 pub mod Reads
 pub mod Judged
+pub mod OutOfOrder
 pub mod Chapters
 pub mod inside
