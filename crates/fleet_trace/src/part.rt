@@ -21,3 +21,20 @@ pub enum OpeningPart {
     /// not rise on a robot.
     Names(u32),
 }
+
+/// The part of a JSON text that is not in the form of a trace.
+#[derive(Clone, Copy, Debug, PartialEq, Eq)]
+pub enum FormPart {
+    /// The value is not an object with an integer under `version`.
+    Value,
+    /// Its keys are not exactly `version`, `chapter`, `opening` and `entries`.
+    Members,
+    /// What is under `chapter` is not a number from 0 to 4,294,967,295.
+    Chapter,
+    /// What is under `opening` is not in its form.
+    Opening,
+    /// There is no array under `entries`.
+    Entries,
+    /// This entry, counted from 1, is the first that is not in its form.
+    Entry(u64),
+}
