@@ -1,4 +1,4 @@
--- Which part of a JSON text is not in the form of a trace.
+-- The first part of a JSON text that is not in the form of a trace.
 use Rattle.std.proofs.Common.{◌≡◌, ◌∙◌, ℕ, ◌+◌, ◌<◌, ◌≤◌, List, [], ◌∷◌, ◌++◌, length, get_or, map, take, drop, Option, Some, None, true, false, refl, sym, ap, subst, arith}
 use Rattle.std.specs.Prelude.{◌≢◌, ℤ, codes, is_some, if◌then◌else◌}
 use Rattle.std.specs.Option.{option_map, option_and_then}

@@ -1,4 +1,4 @@
--- Which part of an opening is not in order.
+-- The first part of an opening that is not in order.
 use Rattle.std.proofs.Common.{◌≡◌, ◌∙◌, ℕ, ◌+◌, ◌<◌, List, length, get_or, map, Bool, false, Option, Some, refl, sym, ap, subst, arith}
 use Rattle.std.specs.Prelude.{◌↔◌, All, None, Result, Ok, Err, IsTrue, IfOk, MatchOption}
 use Rattle.std.specs.List.{slice_index_or}
@@ -13,21 +13,25 @@ use Rattle.fleet_trace.specs.declared.part.OpeningPart.{OpeningPart}
 use Rattle.fleet_trace.specs.declared.part.OpeningPart.TheVariants.{Robots, Clients, Queue, Life, Cells, Robot, Client, Names}
 use Rattle.fleet_trace.specs.inside.Clients.{AreClientsInOrder}
 use Rattle.fleet_trace.specs.inside.Opened.{AreClientNamesInOrder, AreSizesInOrder, owed_in}
-use Rattle.fleet_trace.specs.OutOfOrder.{IsOutOfOrder, IsFirstRobot, AreClientsBefore, AreCountsInOrder, AreNamesOfInOrder}
+use Rattle.fleet_trace.specs.OutOfOrder.{HasNumbers, IsPlaced, IsOutOfOrder, IsFirstClient, IsFirstRobot, AreClientsBefore, AreCountsInOrder, AreNamesOfInOrder}
 use Rattle.fleet_trace.proofs.AllItems.{all_more, cell_at, length-cells}
 use Rattle.fleet_trace.proofs.ErrandNames.{impossible, get-slice, get-within}
 use Rattle.fleet_trace.proofs.OpeningOrder.{item_is, in_order, client_fine, client_tested, names_tested}
 
+pub numbers : {A : Type 0} (o : Opening A) → AreSizesInOrder o → HasNumbers o
+numbers o sizes = ((sizes.some_robots, sizes.few_robots), (sizes.some_clients, sizes.few_clients), sizes.queue, sizes.life)
+
 -- an opening with such a part is not in order
 pub out_of_order : {A : Type 0} (m : Floor) (o : Opening A) (part : OpeningPart) → IsOutOfOrder m o part → IsInOrder m o → ⊥
 out_of_order m o Robots bad fine = bad (fine.some_robots, fine.few_robots)
-out_of_order m o Clients bad fine = bad (fine.some_clients, fine.few_clients)
-out_of_order m o Queue bad fine = bad fine.queue
-out_of_order m o Life bad fine = bad fine.life
-out_of_order m o Cells bad fine = bad fine.placed
-out_of_order m o (Robot r) bad fine = bad.out (subst (IsRobotInOrder m o) (item_is o.robots r bad.robot bad.stands) (fine.robots r bad.robot (get-within o.robots r bad.robot bad.stands)))
-out_of_order m o (Client c) bad fine = bad.1 (fine.clients c bad.0.known)
-out_of_order m o (Names c) bad fine = bad.2 (record {
+out_of_order m o Clients bad fine = bad.1 (fine.some_clients, fine.few_clients)
+out_of_order m o Queue bad fine = bad.2 fine.queue
+out_of_order m o Life bad fine = bad.3 fine.life
+out_of_order m o Cells bad fine = bad.1 fine.placed
+out_of_order m o (Robot r) bad fine =
+    let first = bad.2 in first.out (subst (IsRobotInOrder m o) (item_is o.robots r first.robot first.stands) (fine.robots r first.robot (get-within o.robots r first.robot first.stands)))
+out_of_order m o (Client c) bad fine = bad.3.1 (fine.clients c bad.3.0.known)
+out_of_order m o (Names c) bad fine = bad.3.2 (record {
   apart = λ r q i j x y a b own other. fine.names.apart r q i j x y a b (own ∙ sym other);
   rising = λ r i j x y less a b own other. fine.names.rising r i j x y less a b (own ∙ sym other);
 })
@@ -89,15 +93,20 @@ module _ {A : Type 0} (o : Opening A) (robots : List (RobotState A)) (clients : 
       names = λ k earlier. names_of o k (names k earlier);
     }
 
-    pub client_out : (b : Bool) → b ≡ false → (IsTrue b ↔ IsClientInOrder o.life owed (slice_index_or clients c unknown_client)) → (m : Floor) → IsOutOfOrder m o (Client c)
-    client_out b bad tests m = (before, λ fine. impossible (sym bad ∙ tests.1 (client_tested o robots clients c owed of_robots of_clients counted fine)))
+    pub client_out : (b : Bool) → b ≡ false → (IsTrue b ↔ IsClientInOrder o.life owed (slice_index_or clients c unknown_client)) → IsFirstClient o (Client c)
+    client_out b bad tests = (before, λ fine. impossible (sym bad ∙ tests.1 (client_tested o robots clients c owed of_robots of_clients counted fine)))
 
-    pub names_out : IsClientInOrder o.life owed (slice_index_or clients c unknown_client) → (b : Bool) → b ≡ false → (IsTrue b ↔ AreClientNamesInOrder robots c) → (m : Floor) → IsOutOfOrder m o (Names c)
-    names_out fine b bad tests m = (before, client_fine o robots clients c owed of_robots of_clients counted fine, λ named. impossible (sym bad ∙ tests.1 (names_tested o robots clients c owed of_robots of_clients counted (client_names_of o c named))))
+    pub names_out : IsClientInOrder o.life owed (slice_index_or clients c unknown_client) → (b : Bool) → b ≡ false → (IsTrue b ↔ AreClientNamesInOrder robots c) → IsFirstClient o (Names c)
+    names_out fine b bad tests = (before, client_fine o robots clients c owed of_robots of_clients counted fine, λ named. impossible (sym bad ∙ tests.1 (names_tested o robots clients c owed of_robots of_clients counted (client_names_of o c named))))
 
 -- where all but the clients is in order
-pub by_clients : {A E : Type 0} (m : Floor) (o : Opening A) (found : Result (Option OpeningPart) E) → AreSizesInOrder o → IsPlacement m (map (λ x. x.cell) o.robots) → All (IsRobotInOrder m o) o.robots
-    → IfOk found (λ part. MatchOption part (AreClientsInOrder o) (λ p. (n : Floor) → IsOutOfOrder n o p)) → IfOk found (λ part. MatchOption part (IsInOrder m o) (IsOutOfOrder m o))
-by_clients m o (Ok None) sizes placed robots clients = in_order m o sizes placed robots clients
-by_clients m o (Ok (Some part)) sizes placed robots out = out m
-by_clients m o (Err e) sizes placed robots h = h
+module _ {A : Type 0} (m : Floor) (o : Opening A) (sizes : AreSizesInOrder o) (placed : IsPlaced m o) (robots : All (IsRobotInOrder m o) o.robots) where
+  by_client : (part : OpeningPart) → IsFirstClient o part → IsOutOfOrder m o part
+  by_client (Client c) first = (numbers o sizes, placed, robots, first)
+  by_client (Names c) first = (numbers o sizes, placed, robots, first)
+  by_client _ first = absurd first
+
+  pub by_clients : {E : Type 0} (found : Result (Option OpeningPart) E) → IfOk found (λ part. MatchOption part (AreClientsInOrder o) (IsFirstClient o)) → IfOk found (λ part. MatchOption part (IsInOrder m o) (IsOutOfOrder m o))
+  by_clients (Ok None) clients = in_order m o sizes placed robots clients
+  by_clients (Ok (Some part)) first = by_client part first
+  by_clients (Err e) h = h

@@ -1,4 +1,4 @@
--- Which part of a JSON text is not in the form of a trace.
+-- The first part of a JSON text that is not in the form of a trace.
 use Rattle.std.specs.Prelude.{ℕ, ◌+◌, ◌≡◌, ◌≢◌, List, ◌∷◌, ◌++◌, codes, Option, Some, None, true, length, option_and_then}
 use Rattle.std.specs.declared.alloc.Global.{Global}
 use Rattle.serde_json.specs.Data.{Data}

@@ -1,5 +1,5 @@
--- Which part of an opening is not in order.
-use Rattle.std.specs.Prelude.{ℕ, ◌^◌, ◌≡◌, ◌<◌, ◌≤◌, Some, map, length, slice_get, slice_index_or}
+-- The first part of an opening that is not in order.
+use Rattle.std.specs.Prelude.{ℕ, ◌^◌, ◌≡◌, ◌<◌, ◌≤◌, Some, All, map, length, slice_get, slice_index_or}
 use Rattle.fleet_grid.specs.Floor.{Floor}
 use Rattle.fleet_grid.specs.Step.{IsPlacement}
 use Rattle.fleet_queue.specs.declared.errand.Errand.{Errand}
@@ -14,6 +14,26 @@ use Rattle.fleet_trace.specs.declared.part.OpeningPart.TheVariants.{Robots, Clie
 abbrev pub IsWithin : ℕ → ℕ → ℕ → Type 0
 IsWithin least greatest n = (least ≤ n) × (n ≤ greatest)
 
+-- the numbers of robots, of clients, of errands that a robot may have, and of those that a client may have accepted
+abbrev pub HasRobots : {A : Type 0} → Opening A → Type 0
+HasRobots o = IsWithin 1 512 (length o.robots)
+
+abbrev pub HasClients : {A : Type 0} → Opening A → Type 0
+HasClients o = IsWithin 1 64 (length o.clients)
+
+abbrev pub HasQueue : {A : Type 0} → Opening A → Type 0
+HasQueue o = IsWithin 1 65536 o.queue
+
+abbrev pub HasLife : {A : Type 0} → Opening A → Type 0
+HasLife o = IsWithin 1 (2 ^ 40) o.life
+
+abbrev pub HasNumbers : {A : Type 0} → Opening A → Type 0
+HasNumbers o = HasRobots o × HasClients o × HasQueue o × HasLife o
+
+-- the robots stand on distinct floor cells
+abbrev pub IsPlaced : {A : Type 0} → Floor → Opening A → Type 0
+IsPlaced m o = IsPlacement m (map (λ x. x.cell) o.robots)
+
 -- what is known of a client at the opening is in order
 abbrev pub AreCountsInOrder : {A : Type 0} → Opening A → ℕ → Type 0
 AreCountsInOrder o c = IsClientInOrder o.life (owed_at o c) (slice_index_or o.clients c unknown_client)
@@ -25,7 +45,7 @@ pub record AreNamesOfInOrder {A : Type 0} (o : Opening A) (c : ℕ) : Type 0 whe
   pub rising : (r i j : ℕ) (x y : Errand) → i < j → slice_get (errands_at o r) i ≡ Some x → slice_get (errands_at o r) j ≡ Some y →
       x.client ≡ c → y.client ≡ c → x.number < y.number
 
--- the robot is the first of which what is known is not in order
+-- the robot is the first that is not in order
 pub record IsFirstRobot {A : Type 0} (m : Floor) (o : Opening A) (r : ℕ) : Type 0 where
   pub robot : RobotState A
   pub stands : slice_get o.robots r ≡ Some robot
@@ -38,13 +58,18 @@ pub record AreClientsBefore {A : Type 0} (o : Opening A) (c : ℕ) : Type 0 wher
   pub counts : (k : ℕ) → k < c → AreCountsInOrder o k
   pub names : (k : ℕ) → k < c → AreNamesOfInOrder o k
 
--- the part is not in order; a robot or a client is the first of its kind
+-- the client, or the names of its errands, is the first that is not in order
+abbrev pub IsFirstClient : {A : Type 0} → Opening A → OpeningPart → Type 0
+IsFirstClient o (Client c) = AreClientsBefore o c × (AreCountsInOrder o c → ⊥)
+IsFirstClient o (Names c) = AreClientsBefore o c × AreCountsInOrder o c × (AreNamesOfInOrder o c → ⊥)
+IsFirstClient o _ = ⊥
+
+-- the part is the first that is not in order: the numbers come first, then the cells, then robot by robot, then client by client
 abbrev pub IsOutOfOrder : {A : Type 0} → Floor → Opening A → OpeningPart → Type 0
-IsOutOfOrder m o Robots = IsWithin 1 512 (length o.robots) → ⊥
-IsOutOfOrder m o Clients = IsWithin 1 64 (length o.clients) → ⊥
-IsOutOfOrder m o Queue = IsWithin 1 65536 o.queue → ⊥
-IsOutOfOrder m o Life = IsWithin 1 (2 ^ 40) o.life → ⊥
-IsOutOfOrder m o Cells = IsPlacement m (map (λ x. x.cell) o.robots) → ⊥
-IsOutOfOrder m o (Robot r) = IsFirstRobot m o r
-IsOutOfOrder m o (Client c) = AreClientsBefore o c × (AreCountsInOrder o c → ⊥)
-IsOutOfOrder m o (Names c) = AreClientsBefore o c × AreCountsInOrder o c × (AreNamesOfInOrder o c → ⊥)
+IsOutOfOrder m o Robots = HasRobots o → ⊥
+IsOutOfOrder m o Clients = HasRobots o × (HasClients o → ⊥)
+IsOutOfOrder m o Queue = HasRobots o × HasClients o × (HasQueue o → ⊥)
+IsOutOfOrder m o Life = HasRobots o × HasClients o × HasQueue o × (HasLife o → ⊥)
+IsOutOfOrder m o Cells = HasNumbers o × (IsPlaced m o → ⊥)
+IsOutOfOrder m o (Robot r) = HasNumbers o × IsPlaced m o × IsFirstRobot m o r
+IsOutOfOrder m o p = HasNumbers o × IsPlaced m o × All (IsRobotInOrder m o) o.robots × IsFirstClient o p

@@ -1,28 +1,28 @@
-//! Which part of an opening, or of a trace's text, is at fault.
+//! The parts of an opening, and of a trace's text, that can be at fault.
 
 /// A part of an opening that is not in order. Robots and clients are numbered from 0.
 #[derive(Clone, Copy, Debug, PartialEq, Eq)]
 pub enum OpeningPart {
-    /// There are not 1 to 512 robots.
+    /// The number of robots is not from 1 to 512.
     Robots,
-    /// There are not 1 to 64 clients.
+    /// The number of clients is not from 1 to 64.
     Clients,
-    /// A robot may not have 1 to 65,536 errands.
+    /// How many errands a robot may have is not from 1 to 65,536.
     Queue,
-    /// A client may not make 1 to 2^40 errands.
+    /// How many errands a client may have accepted is not from 1 to 2^40.
     Life,
     /// The robots do not stand on distinct floor cells.
     Cells,
     /// What is known of this robot is not in order: its laws of stamps, its wait, or its errands.
     Robot(u32),
-    /// What is known of this client is not in order: how many orders it gave, errands it made and notices it got.
+    /// What is known of this client is not in order: its orders taken, errands accepted and notices made.
     Client(u32),
-    /// The names of this client's errands are not in order: two robots have one of the same number, or the numbers do
-    /// not rise on a robot.
+    /// The names of this client's errands are not in order: two robots have errands with one number, or the numbers on
+    /// a robot do not rise.
     Names(u32),
 }
 
-/// The part of a JSON text that is not in the form of a trace.
+/// A part of a JSON text that is not in the form of a trace.
 #[derive(Clone, Copy, Debug, PartialEq, Eq)]
 pub enum FormPart {
     /// The value is not an object with an integer under `version`.

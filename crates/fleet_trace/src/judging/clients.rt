@@ -1,11 +1,10 @@
 //! Which client of an opening is not in order.
 
 ghost use Rattle.std.specs.Prelude.{◌≡◌, ◌↔◌, ◌≤◌, ◌^◌, ◌==◌, ℕ, IsTrue, IfOk, MatchOption, count_by};
-ghost use Rattle.fleet_grid.specs.Floor.{Floor};
 ghost use Rattle.fleet_history.specs.Legal.{IsClientInOrder, owed_at};
 ghost use Rattle.fleet_trace.specs.inside.Clients.{AreClientsInOrder};
 ghost use Rattle.fleet_trace.specs.inside.Opened.{owed_in, AreSizesInOrder};
-ghost use Rattle.fleet_trace.specs.OutOfOrder.{IsOutOfOrder};
+ghost use Rattle.fleet_trace.specs.OutOfOrder.{IsFirstClient};
 
 use super::names::are_names_in_order;
 use crate::part::OpeningPart;
@@ -65,7 +64,7 @@ pub(crate) fn client_fault<A: Allocator + Copy>(
 ) -> Result<Option<OpeningPart>, AllocError>
     requires sizes { AreSizesInOrder opening.now }
     requires owed { (c : ℕ) → owed_at opening.now c ≤ 2 ^ 41 }
-    ensures { IfOk result (λ part. MatchOption part (AreClientsInOrder opening.now) (λ p. (m : Floor) → IsOutOfOrder m opening.now p)) }
+    ensures { IfOk result (λ part. MatchOption part (AreClientsInOrder opening.now) (IsFirstClient opening.now)) }
 {
     let (robots, clients) = (opening.robots.as_slice(), opening.clients.as_slice());
     for c in 0..clients.len() {

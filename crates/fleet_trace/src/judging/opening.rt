@@ -1,6 +1,6 @@
-//! Which part of an opening is not in order.
+//! The first part of an opening that is not in order.
 
-ghost use Rattle.std.specs.Prelude.{◌≡◌, ◌↔◌, ◌≤◌, IsTrue, IfOk, MatchOption};
+ghost use Rattle.std.specs.Prelude.{◌↔◌, ◌≤◌, IsTrue, IfOk, MatchOption};
 ghost use Rattle.fleet_grid.specs.Floor.{Floor};
 ghost use Rattle.fleet_history.specs.Legal.{IsInOrder};
 ghost use Rattle.fleet_trace.specs.inside.Opened.{AreSizesInOrder};
@@ -38,8 +38,9 @@ fn size_fault<A: Allocator + Copy>(opening: &Opening<A>) -> Option<OpeningPart>
     None
 }
 
-/// The part of an opening that is not in order on the map; `None` if it is in order. The parts are tested in the order
-/// of `OpeningPart`, and each client before the names of its errands. The error is out of memory.
+/// The first part of an opening that is not in order on the map; `None` if it is in order. The parts follow one another
+/// as in `OpeningPart`, except that the names of a client's errands come right after the client. The error is out of
+/// memory.
 pub fn opening_fault<A: Allocator + Copy, B: Allocator + Copy>(
     alloc: A,
     grid: &Grid<B>,

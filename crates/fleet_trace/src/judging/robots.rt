@@ -1,10 +1,10 @@
 //! Which robot of an opening is not in order.
 
-ghost use Rattle.std.specs.Prelude.{◌≡◌, ◌↔◌, ◌<◌, ◌≤◌, ℕ, All, IsTrue, IfOk, MatchOption, length, map, not, is_some, slice_index};
+ghost use Rattle.std.specs.Prelude.{◌≡◌, ◌↔◌, ◌<◌, ◌≤◌, All, IsTrue, IfOk, MatchOption, length, map, not};
 ghost use Rattle.fleet_grid.specs.Floor.{IsFloor};
 ghost use Rattle.fleet_grid.specs.Step.{IsPlacement};
 ghost use Rattle.fleet_hooks.specs.Law.{IsStampLaw};
-ghost use Rattle.fleet_history.specs.Legal.{IsRobotInOrder, is_none_left};
+ghost use Rattle.fleet_history.specs.Legal.{IsRobotInOrder};
 ghost use Rattle.fleet_trace.specs.inside.Opened.{IsErrandInOrder, IsWaitInOrder};
 ghost use Rattle.fleet_trace.specs.OutOfOrder.{IsFirstRobot};
 

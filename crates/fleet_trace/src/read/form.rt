@@ -1,4 +1,4 @@
-//! Which part of a JSON text is not in the form of a trace.
+//! The first part of a JSON text that is not in the form of a trace.
 
 ghost use Rattle.std.specs.Prelude.{◌≡◌, ◌≢◌, Option, None, IfOk, MatchOption, is_some, map};
 ghost use Rattle.std.specs.declared.alloc.Global.{Global};
@@ -45,7 +45,7 @@ fn first_untold(
     Ok(None)
 }
 
-/// The part of a value that is not in the version's form.
+/// The first part of a value that is not in the version's form.
 fn part_in(alloc: Global, version: Version, value: &Value) -> Result<Option<FormPart>, AllocError>
     ensures { IfOk result (λ part. MatchOption part (told_in {A = Global} version (view value.now) ≢ None) (IsMisformedIn version (view value.now))) }
 {
@@ -74,7 +74,7 @@ fn part_in(alloc: Global, version: Version, value: &Value) -> Result<Option<Form
     }
 }
 
-/// The part of a value that is not in the form of a trace.
+/// The first part of a value that is not in the form of a trace.
 fn part_of(alloc: Global, value: &Value) -> Result<Option<FormPart>, AllocError>
     ensures { IfOk result (λ part. MatchOption part
         (IsVersionKnown (version_number (view value.now)) → trace_in {A = Global} (view value.now) ≢ None) (IsMisformed (view value.now))) }
@@ -86,8 +86,9 @@ fn part_of(alloc: Global, value: &Value) -> Result<Option<FormPart>, AllocError>
     }
 }
 
-/// The part of a JSON text that is not in the form of a trace; `None` if the bytes are no JSON, name an unknown
-/// version, or tell a trace. The parts are tested in the order of `FormPart`. The error is out of memory.
+/// The first part of a JSON text, in the order of `FormPart`, that is not in the form of a trace; `None` if the bytes
+/// are no JSON, name an unknown version, or tell a trace. So there is one exactly if `read_trace` returns
+/// `TraceFault::Shape`. The error is out of memory.
 pub fn form_fault(alloc: Global, bytes: &[u8]) -> Result<Option<FormPart>, AllocError>
     ensures { IfOk result (λ part. MatchOption part (IsTraceFault bytes.now TraceFault.Shape → ⊥) (IsFormFault bytes.now)) }
 {

@@ -18,14 +18,14 @@ is_client_in_order-requires g c =
     owed-few c.args.opening.now c.as_slice-robots.result.now c.as_slice-clients.result.now c.loop-c.c c.owed_of.result c.as_slice-robots.ensures c.as_slice-clients.ensures c.owed_of.ensures c.requires.owed
 
 pub returns-then-not-is_client_in_order : goal.returns-then-not-is_client_in_order
-returns-then-not-is_client_in_order g c = λ m.
+returns-then-not-is_client_in_order g c =
     client_out c.args.opening.now c.as_slice-robots.result.now c.as_slice-clients.result.now c.loop-c.c c.owed_of.result c.as_slice-robots.ensures c.as_slice-clients.ensures c.owed_of.ensures c.loop-c-test.true
-    c.loop-c.invariant.clients c.loop-c.invariant.names c.is_client_in_order.result c.if-not-is_client_in_order.true c.is_client_in_order.ensures m
+    c.loop-c.invariant.clients c.loop-c.invariant.names c.is_client_in_order.result c.if-not-is_client_in_order.true c.is_client_in_order.ensures
 
 pub returns-then-not-branch : goal.returns-then-not-branch
-returns-then-not-branch g c = λ m.
+returns-then-not-branch g c =
     names_out c.args.opening.now c.as_slice-robots.result.now c.as_slice-clients.result.now c.loop-c.c c.owed_of.result c.as_slice-robots.ensures c.as_slice-clients.ensures c.owed_of.ensures c.loop-c-test.true
-    c.loop-c.invariant.clients c.loop-c.invariant.names (c.is_client_in_order.ensures.0 c.if-not-is_client_in_order.false) c.in_ok-are_names_in_order.field-0 c.if-not-branch.true c.in_ok-are_names_in_order.ensures m
+    c.loop-c.invariant.clients c.loop-c.invariant.names (c.is_client_in_order.ensures.0 c.if-not-is_client_in_order.false) c.in_ok-are_names_in_order.field-0 c.if-not-branch.true c.in_ok-are_names_in_order.ensures
 
 pub loop-c-preserved : goal.loop-c-preserved
 loop-c-preserved g c =

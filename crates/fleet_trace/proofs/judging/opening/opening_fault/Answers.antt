@@ -9,5 +9,6 @@ client_fault-requires-clause-owed g c client =
 
 pub returns : goal.returns
 returns g c =
-    by_clients c.args.grid.now c.args.opening.now c.client_fault.result c.in_default.ensures
-    (placed_fine c.args.grid.now c.args.opening.now c.as_slice.result.now c.as_slice.ensures (c.in_ok-is_placed.ensures.0 c.if-not-branch.false)) c.in_default-robot_fault.ensures c.client_fault.ensures
+    by_clients c.args.grid.now c.args.opening.now c.in_default.ensures
+    (placed_fine c.args.grid.now c.args.opening.now c.as_slice.result.now c.as_slice.ensures (c.in_ok-is_placed.ensures.0 c.if-not-branch.false)) c.in_default-robot_fault.ensures
+    c.client_fault.result c.client_fault.ensures
