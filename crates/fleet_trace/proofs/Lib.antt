@@ -6,6 +6,8 @@ pub mod RoundTrip
 pub mod ErrandNames
 pub mod AllItems
 pub mod OpeningOrder
+pub mod OpeningParts
+pub mod FormParts
 pub mod EntryByEntry
 pub mod LikeOpenings
 pub mod CalmOpening

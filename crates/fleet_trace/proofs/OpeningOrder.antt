@@ -1,6 +1,6 @@
 -- An opening is in order where each of its parts is.
 use Rattle.std.proofs.Common.{◌≡◌, ℕ, ◌<◌, ◌≤◌, inl, inr, List, [], ◌∷◌, length, get_or, map, Option, Some, refl, sym, ap, subst, ◌∙◌, arith}
-use Rattle.std.specs.Prelude.{◌↔◌, All, Bool, Result, Ok, Err, IsTrue, IfOk}
+use Rattle.std.specs.Prelude.{All}
 use Rattle.std.specs.List.{slice_get, slice_index_or}
 use Rattle.std.specs.Option.{unwrap_or}
 use Rattle.std.proofs.lemmas.Bool.{cases_lt}
@@ -16,14 +16,8 @@ use Rattle.fleet_trace.specs.inside.Opened.{errands_in, owed_in, AreClientNamesI
 use Rattle.fleet_trace.specs.inside.Clients.{AreClientsInOrder}
 use Rattle.fleet_trace.proofs.ErrandNames.{get-slice, get-within, errands_at_robot, none_past}
 
-pub client_names : {A : Type 0} (o : Opening A) → AreNamesInOrder o → (c : ℕ) → AreClientNamesInOrder o.robots c
-client_names o names c = record {
-  apart = λ r q i j n a b. names.apart r q i j a.errand b.errand a.stands b.stands (a.client ∙ sym b.client) (a.number ∙ sym b.number);
-  rising = λ r i j n l less a b. omega (arith, names.rising r i j a.errand b.errand less a.stands b.stands (a.client ∙ sym b.client), a.number, b.number);
-}
-
-item_is : (xs : List Errand) (i : ℕ) (x : Errand) → slice_get xs i ≡ Some x → get_or xs i x ≡ x
-item_is xs i x e = ap (λ (o : Option Errand). unwrap_or o x) (sym (get-slice xs i x (get-within xs i x e)) ∙ e)
+pub item_is : {X : Type 0} (xs : List X) (i : ℕ) (x : X) → slice_get xs i ≡ Some x → get_or xs i x ≡ x
+item_is xs i x e = ap (λ (o : Option _). unwrap_or o x) (sym (get-slice xs i x (get-within xs i x e)) ∙ e)
 
 known : {A : Type 0} (m : Floor) (o : Opening A) (robots : List (RobotState A)) → All (IsRobotInOrder m o) robots → (r i : ℕ) (x : Errand) → slice_get (errands_in robots r) i ≡ Some x → x.client < length o.clients
 known m o [] fine r i x e = cc
@@ -35,7 +29,7 @@ known m o (y ∷ robots) fine r i x e = elim (cases_lt r (length (y ∷ robots))
   | inr more ↦ absurd (omega (arith, get-within (errands_in (y ∷ robots) r) i x e, ap length (none_past (y ∷ robots) r more)))
 ]
 
-pub names_from : {A : Type 0} (m : Floor) (o : Opening A) → All (IsRobotInOrder m o) o.robots → ((c : ℕ) → c < length o.clients → AreClientNamesInOrder o.robots c) → AreNamesInOrder o
+names_from : {A : Type 0} (m : Floor) (o : Opening A) → All (IsRobotInOrder m o) o.robots → ((c : ℕ) → c < length o.clients → AreClientNamesInOrder o.robots c) → AreNamesInOrder o
 names_from m o fine each = record {
   apart = λ r q i j x y a b client number.
       (each x.client (known m o o.robots fine r i x a)).apart r q i j x.number (record { errand = x; stands = a; client = refl; number = refl }) (record { errand = y; stands = b; client = sym client; number = sym number });
@@ -57,14 +51,6 @@ in_order m o sizes placed robots clients = record {
   names = names_from m o robots clients.names;
 }
 
-pub clients_of : {A : Type 0} (m : Floor) (o : Opening A) → IsInOrder m o → AreClientsInOrder o
-clients_of m o fine = record { clients = fine.clients; names = λ c _. client_names o fine.names c }
-
--- a test of one fact tests another that is the same
-pub same_test : {E P Q : Type 0} (r : Result Bool E) → (P → Q) → (Q → P) → IfOk r (λ b. IsTrue b ↔ P) → IfOk r (λ b. IsTrue b ↔ Q)
-same_test (Ok b) f g tests = (λ yes. f (tests.0 yes), λ q. tests.1 (g q))
-same_test (Err e) f g tests = tests
-
 -- ---- a client is tested together with what it is owed
 
 module _ {A : Type 0} (o : Opening A) (robots : List (RobotState A)) (clients : List ClientState) (c owed : ℕ) (of_robots : robots ≡ o.robots) (of_clients : clients ≡ o.clients) (counted : owed ≡ owed_in robots c) where
@@ -79,23 +65,17 @@ module _ {A : Type 0} (o : Opening A) (robots : List (RobotState A)) (clients : 
       subst (λ (cs : List ClientState). IsClientInOrder o.life (owed_at o c) (slice_index_or cs c unknown_client)) of_clients
       (subst (λ (n : ℕ). IsClientInOrder o.life n (slice_index_or clients c unknown_client)) owed-here h)
 
-  pub client_tested : c < length clients → AreClientsInOrder o → IsClientInOrder o.life owed (slice_index_or clients c unknown_client)
-  client_tested less fine =
+  pub client_tested : IsClientInOrder o.life (owed_at o c) (slice_index_or o.clients c unknown_client) → IsClientInOrder o.life owed (slice_index_or clients c unknown_client)
+  client_tested fine =
       subst (λ (n : ℕ). IsClientInOrder o.life n (slice_index_or clients c unknown_client)) (sym owed-here)
-      (subst (λ (cs : List ClientState). IsClientInOrder o.life (owed_at o c) (slice_index_or cs c unknown_client)) (sym of_clients)
-      (fine.clients c (subst (λ (cs : List ClientState). c < length cs) of_clients less)))
+      (subst (λ (cs : List ClientState). IsClientInOrder o.life (owed_at o c) (slice_index_or cs c unknown_client)) (sym of_clients) fine)
 
   pub names_fine : AreClientNamesInOrder robots c → AreClientNamesInOrder o.robots c
   names_fine h = subst (λ (xs : List (RobotState A)). AreClientNamesInOrder xs c) of_robots h
 
-  pub names_tested : c < length clients → AreClientsInOrder o → AreClientNamesInOrder robots c
-  names_tested less fine =
-      subst (λ (xs : List (RobotState A)). AreClientNamesInOrder xs c) (sym of_robots)
-      (fine.names c (subst (λ (cs : List ClientState). c < length cs) of_clients less))
+  pub names_tested : AreClientNamesInOrder o.robots c → AreClientNamesInOrder robots c
+  names_tested fine = subst (λ (xs : List (RobotState A)). AreClientNamesInOrder xs c) (sym of_robots) fine
 
 module _ {A : Type 0} (m : Floor) (o : Opening A) (robots : List (RobotState A)) (of_robots : robots ≡ o.robots) where
   pub placed_fine : IsPlacement m (map (λ x. x.cell) robots) → IsPlacement m (map (λ x. x.cell) o.robots)
   placed_fine h = subst (λ (xs : List (RobotState A)). IsPlacement m (map (λ x. x.cell) xs)) of_robots h
-
-  pub placed_tested : IsInOrder m o → IsPlacement m (map (λ x. x.cell) robots)
-  placed_tested fine = subst (λ (xs : List (RobotState A)). IsPlacement m (map (λ x. x.cell) xs)) (sym of_robots) fine.placed

@@ -4,6 +4,8 @@ pub mod Fits
 pub mod Version
 pub mod Told
 pub mod Reads
+pub mod Misformed
 pub mod Judged
+pub mod OutOfOrder
 pub mod Chapters
 pub mod inside

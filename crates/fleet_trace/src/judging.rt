@@ -28,7 +28,7 @@ use fleet_history::{Chapter, Entry, Opening, RobotState};
 use fleet_state::FleetState;
 pub use next::is_early;
 pub(crate) use next::opening_after;
-use opening::is_in_order;
+pub use opening::opening_fault;
 use rooms::rooms_of;
 use shuts::broken_shut;
 use std::alloc::{AllocError, Allocator};
@@ -155,7 +155,7 @@ pub fn judge<A: Allocator + Copy>(
     ensures legal { IsLegal grid.now (history_of chapter.now) → IfErr result (λ fault. fault ≡ JudgeFault.NoMemory) }
 {
     let entries = chapter.entries.as_slice();
-    if !is_in_order(alloc, grid, &chapter.opening)? {
+    if let Some(_) = opening_fault(alloc, grid, &chapter.opening)? {
         return Err(JudgeFault::Illegal { at: 0, rule: 1 });
     }
     judge_from_zero(alloc, grid, &chapter.opening, entries)

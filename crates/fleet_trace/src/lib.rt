@@ -5,14 +5,16 @@ mod chapters;
 mod fault;
 mod judging;
 mod law;
+mod part;
 mod read;
 mod version;
 mod write;
 
 pub use chapters::read_chapters;
 pub use fault::{ChaptersFault, JudgeFault, TraceFault};
-pub use judging::{is_early, judge, landings_after, verdict_after};
+pub use judging::{is_early, judge, landings_after, opening_fault, verdict_after};
 pub use law::{trace_reads_back, write_and_read};
-pub use read::read_trace;
+pub use part::{FormPart, OpeningPart};
+pub use read::{form_fault, read_trace};
 pub use version::Version;
 pub use write::write_trace;

@@ -1,6 +1,7 @@
 //! A chapter from a trace.
 
 mod entries;
+mod form;
 mod opening;
 mod parts;
 
@@ -15,6 +16,7 @@ ghost use Rattle.fleet_trace.specs.Reads.{Gives, IsTraceFault, IsVersionOf, Tell
 use crate::fault::TraceFault;
 use crate::version::Version;
 use fleet_history::Chapter;
+pub use form::form_fault;
 use opening::read_opening;
 use parts::{count_of, has_members, read_all, values_of};
 use serde_json::Value;

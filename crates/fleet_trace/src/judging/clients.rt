@@ -1,11 +1,13 @@
-//! Whether the clients of an opening are in order.
+//! Which client of an opening is not in order.
 
-ghost use Rattle.std.specs.Prelude.{◌≡◌, ◌↔◌, ◌≤◌, ◌^◌, ◌==◌, ℕ, IsTrue, IfOk, count_by};
+ghost use Rattle.std.specs.Prelude.{◌≡◌, ◌↔◌, ◌≤◌, ◌^◌, ◌==◌, ℕ, IsTrue, IfOk, MatchOption, count_by};
 ghost use Rattle.fleet_history.specs.Legal.{IsClientInOrder, owed_at};
 ghost use Rattle.fleet_trace.specs.inside.Clients.{AreClientsInOrder};
 ghost use Rattle.fleet_trace.specs.inside.Opened.{owed_in, AreSizesInOrder};
+ghost use Rattle.fleet_trace.specs.OutOfOrder.{IsFirstClient};
 
 use super::names::are_names_in_order;
+use crate::part::OpeningPart;
 use fleet_history::{ClientState, Opening, RobotState};
 use fleet_queue::Errand;
 use std::alloc::{AllocError, Allocator};
@@ -55,24 +57,24 @@ fn is_client_in_order(life: u64, owed: u64, client: &ClientState) -> bool
     client.taken <= client.noticed && client.noticed + owed <= client.taken + client.accepted
 }
 
-/// Whether each client, and the names of its errands, are in order.
-pub(crate) fn are_clients_in_order<A: Allocator + Copy>(
+/// The first client that is not in order, or whose errands' names are not in order.
+pub(crate) fn client_fault<A: Allocator + Copy>(
     alloc: A,
     opening: &Opening<A>,
-) -> Result<bool, AllocError>
+) -> Result<Option<OpeningPart>, AllocError>
     requires sizes { AreSizesInOrder opening.now }
     requires owed { (c : ℕ) → owed_at opening.now c ≤ 2 ^ 41 }
-    ensures { IfOk result (λ fine. IsTrue fine ↔ AreClientsInOrder opening.now) }
+    ensures { IfOk result (λ part. MatchOption part (AreClientsInOrder opening.now) (IsFirstClient opening.now)) }
 {
     let (robots, clients) = (opening.robots.as_slice(), opening.clients.as_slice());
     for c in 0..clients.len() {
         let client = c as u32;
         if !is_client_in_order(opening.life, owed_of(robots, client), &clients[c]) {
-            return Ok(false);
+            return Ok(Some(OpeningPart::Client(client)));
         }
         if !are_names_in_order(alloc, robots, client)? {
-            return Ok(false);
+            return Ok(Some(OpeningPart::Names(client)));
         }
     }
-    Ok(true)
+    Ok(None)
 }

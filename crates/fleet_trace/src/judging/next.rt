@@ -5,7 +5,7 @@ ghost use Rattle.fleet_history.specs.History.{history_of};
 ghost use Rattle.fleet_history.specs.Next.{next_opening};
 ghost use Rattle.fleet_trace.specs.Chapters.{IsEarly, IsSound};
 
-use super::opening::is_in_order;
+use super::opening::opening_fault;
 use super::state_after;
 use crate::fault::JudgeFault;
 use fleet_grid::Grid;
@@ -35,7 +35,7 @@ pub(crate) fn opening_after(
     if !is_early(chapter) {
         return Ok(None);
     }
-    if !is_in_order(alloc, grid, &chapter.opening)? {
+    if let Some(_) = opening_fault(alloc, grid, &chapter.opening)? {
         return Ok(None);
     }
     match state_after(alloc, grid, &chapter.opening, chapter.entries.as_slice()) {

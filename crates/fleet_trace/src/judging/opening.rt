@@ -1,11 +1,14 @@
-//! Whether an opening is in order.
+//! The first part of an opening that is not in order.
 
-ghost use Rattle.std.specs.Prelude.{◌≡◌, ◌↔◌, ◌≤◌, IsTrue, IfOk};
+ghost use Rattle.std.specs.Prelude.{◌↔◌, ◌≤◌, IsTrue, IfOk, MatchOption};
+ghost use Rattle.fleet_grid.specs.Floor.{Floor};
 ghost use Rattle.fleet_history.specs.Legal.{IsInOrder};
 ghost use Rattle.fleet_trace.specs.inside.Opened.{AreSizesInOrder};
+ghost use Rattle.fleet_trace.specs.OutOfOrder.{IsOutOfOrder};
 
-use super::clients::are_clients_in_order;
-use super::robots::{are_robots_in_order, is_placed};
+use super::clients::client_fault;
+use super::robots::{is_placed, robot_fault};
+use crate::part::OpeningPart;
 use fleet_grid::Grid;
 use fleet_history::Opening;
 use std::alloc::{AllocError, Allocator};
@@ -16,30 +19,43 @@ fn is_between(number: u64, least: u64, greatest: u64) -> bool
     least <= number && number <= greatest
 }
 
-/// Whether the numbers of robots and clients, and what they may have, are in their ranges.
-fn are_sizes_in_order<A: Allocator + Copy>(opening: &Opening<A>) -> bool
-    ensures { IsTrue result ↔ AreSizesInOrder opening.now }
+/// The first number, of robots, of clients, or of what they may have, that is not in its range.
+fn size_fault<A: Allocator + Copy>(opening: &Opening<A>) -> Option<OpeningPart>
+    ensures { MatchOption result (AreSizesInOrder opening.now) (λ part. (m : Floor) → IsOutOfOrder m opening.now part) }
 {
-    is_between(opening.robots.len() as u64, 1, 512)
-        && is_between(opening.clients.len() as u64, 1, 64)
-        && is_between(u64::from(opening.queue), 1, 65_536)
-        && is_between(opening.life, 1, 1 << 40)
+    if !is_between(opening.robots.len() as u64, 1, 512) {
+        return Some(OpeningPart::Robots);
+    }
+    if !is_between(opening.clients.len() as u64, 1, 64) {
+        return Some(OpeningPart::Clients);
+    }
+    if !is_between(u64::from(opening.queue), 1, 65_536) {
+        return Some(OpeningPart::Queue);
+    }
+    if !is_between(opening.life, 1, 1 << 40) {
+        return Some(OpeningPart::Life);
+    }
+    None
 }
 
-/// Whether the opening is in order on the map. The error is out of memory.
-pub(crate) fn is_in_order<A: Allocator + Copy, B: Allocator + Copy>(
+/// The first part of an opening that is not in order on the map; `None` if it is in order. The parts follow one another
+/// as in `OpeningPart`, except that the names of a client's errands come right after the client. The error is out of
+/// memory.
+pub fn opening_fault<A: Allocator + Copy, B: Allocator + Copy>(
     alloc: A,
     grid: &Grid<B>,
     opening: &Opening<A>,
-) -> Result<bool, AllocError>
-    ensures { IfOk result (λ fine. IsTrue fine ↔ IsInOrder grid.now opening.now) }
+) -> Result<Option<OpeningPart>, AllocError>
+    ensures { IfOk result (λ part. MatchOption part (IsInOrder grid.now opening.now) (IsOutOfOrder grid.now opening.now)) }
 {
-    if !are_sizes_in_order(opening) {
-        return Ok(false);
+    if let Some(part) = size_fault(opening) {
+        return Ok(Some(part));
     }
-    let placed = is_placed(alloc, grid, opening.robots.as_slice())?;
-    if !placed || !are_robots_in_order(grid, opening) {
-        return Ok(false);
+    if !is_placed(alloc, grid, opening.robots.as_slice())? {
+        return Ok(Some(OpeningPart::Cells));
     }
-    are_clients_in_order(alloc, opening)
+    if let Some(robot) = robot_fault(grid, opening) {
+        return Ok(Some(OpeningPart::Robot(robot)));
+    }
+    client_fault(alloc, opening)
 }

@@ -1,11 +1,12 @@
-//! Whether the robots of an opening are in order.
+//! Which robot of an opening is not in order.
 
-ghost use Rattle.std.specs.Prelude.{◌≡◌, ◌↔◌, ◌<◌, ◌≤◌, ℕ, All, IsTrue, IfOk, length, map, not, is_some, slice_index};
+ghost use Rattle.std.specs.Prelude.{◌≡◌, ◌↔◌, ◌<◌, ◌≤◌, All, IsTrue, IfOk, MatchOption, length, map, not};
 ghost use Rattle.fleet_grid.specs.Floor.{IsFloor};
 ghost use Rattle.fleet_grid.specs.Step.{IsPlacement};
 ghost use Rattle.fleet_hooks.specs.Law.{IsStampLaw};
-ghost use Rattle.fleet_history.specs.Legal.{IsRobotInOrder, is_none_left};
+ghost use Rattle.fleet_history.specs.Legal.{IsRobotInOrder};
 ghost use Rattle.fleet_trace.specs.inside.Opened.{IsErrandInOrder, IsWaitInOrder};
+ghost use Rattle.fleet_trace.specs.OutOfOrder.{IsFirstRobot};
 
 use fleet_grid::{Grid, is_placement};
 use fleet_history::{ClientState, Opening, RobotState};
@@ -113,18 +114,20 @@ fn is_robot_in_order<A: Allocator + Copy, B: Allocator + Copy>(
     are_errands_in_order(grid, opening.clients.as_slice(), robot.cell, errands)
 }
 
-/// Whether the robots, which stand on a placement, are in order.
-pub(crate) fn are_robots_in_order<A: Allocator + Copy, B: Allocator + Copy>(
+/// The first of the robots, which stand on a placement, that is not in order.
+pub(crate) fn robot_fault<A: Allocator + Copy, B: Allocator + Copy>(
     grid: &Grid<B>,
     opening: &Opening<A>,
-) -> bool
-    requires { IsPlacement grid.now (map (λ x. x.cell) opening.now.robots) }
-    ensures { IsTrue result ↔ All (IsRobotInOrder grid.now opening.now) opening.now.robots }
+) -> Option<u32>
+    requires few { length opening.now.robots ≤ 512 }
+    requires placed { IsPlacement grid.now (map (λ x. x.cell) opening.now.robots) }
+    ensures { MatchOption result (All (IsRobotInOrder grid.now opening.now) opening.now.robots) (IsFirstRobot grid.now opening.now) }
 {
-    for robot in opening.robots.as_slice() {
-        if !is_robot_in_order(grid, opening, robot) {
-            return false;
+    let robots = opening.robots.as_slice();
+    for r in 0..robots.len() {
+        if !is_robot_in_order(grid, opening, &robots[r]) {
+            return Some(r as u32);
         }
     }
-    true
+    None
 }

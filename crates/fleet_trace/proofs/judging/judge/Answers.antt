@@ -1,20 +1,23 @@
-use Rattle.std.proofs.Common.{◌∙◌, sym, subst, List}
+use Rattle.std.proofs.Common.{subst, refl, inl, List}
 use Rattle.std.specs.Prelude.{OnOk, IfErr}
 use Rattle.fleet_history.specs.declared.history.Entry.{Entry}
 use Rattle.fleet_history.specs.History.{history_of, start, with_entries}
 use Rattle.fleet_history.specs.Legal.{IsLegal}
 use Rattle.fleet_history.proofs.Legal.{legal-opening}
 use Rattle.fleet_trace.specs.Judged.{IsJudgeFault}
-use Rattle.fleet_trace.proofs.ErrandNames.{impossible}
+use Rattle.fleet_trace.proofs.OpeningParts.{none_out, some_out}
 use Rattle.fleet_trace.proofs.CalmOpening.{legal-memory}
 use Rattle.fleet_trace.proofs.judging.judge.Goals as goal
 
-pub returns-then-not-branch-clause-legal : goal.returns-then-not-branch-clause-legal
-returns-then-not-branch-clause-legal g c = λ legal.
-    absurd (impossible (sym c.if-not-branch.true ∙ c.in_ok-is_in_order.ensures.1 (legal-opening c.args.grid.now (history_of c.args.chapter.now) legal)))
+pub returns-in-Some-clause-fault : goal.returns-in-Some-clause-fault
+returns-in-Some-clause-fault g c = inl (refl, refl, some_out c.args.grid.now c.args.chapter.now.opening c.in_ok-opening_fault.field-0 c.in_ok-opening_fault.ensures c.in-Some.field-0 c.in-Some.is)
+
+pub returns-in-Some-clause-legal : goal.returns-in-Some-clause-legal
+returns-in-Some-clause-legal g c = λ legal.
+    absurd (some_out c.args.grid.now c.args.chapter.now.opening c.in_ok-opening_fault.field-0 c.in_ok-opening_fault.ensures c.in-Some.field-0 c.in-Some.is (legal-opening c.args.grid.now (history_of c.args.chapter.now) legal))
 
 pub judge_from_zero-requires-clause-order : goal.judge_from_zero-requires-clause-order
-judge_from_zero-requires-clause-order g c = c.in_ok-is_in_order.ensures.0 c.if-not-branch.false
+judge_from_zero-requires-clause-order g c = none_out c.args.grid.now c.args.chapter.now.opening c.in_ok-opening_fault.field-0 c.in_ok-opening_fault.ensures c.in_default.is
 
 pub returns-clause-ok : goal.returns-clause-ok
 returns-clause-ok g c =

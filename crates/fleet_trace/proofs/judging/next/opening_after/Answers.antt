@@ -1,5 +1,5 @@
 -- Only a legal chapter has a next one.
-use Rattle.std.proofs.Common.{◌∙◌, List, inr, sym, subst}
+use Rattle.std.proofs.Common.{List, inr, sym, subst}
 use Rattle.fleet_history.specs.declared.history.Entry.{Entry}
 use Rattle.fleet_history.specs.History.{history_of, start, with_entries}
 use Rattle.fleet_history.proofs.Legal.{legal-opening}
@@ -8,12 +8,15 @@ use Rattle.fleet_trace.specs.declared.fault.JudgeFault.{JudgeFault}
 use Rattle.fleet_trace.specs.declared.fault.JudgeFault.TheVariants.{Illegal}
 use Rattle.fleet_trace.specs.Judged.{IsEntryFault}
 use Rattle.fleet_trace.proofs.EntryByEntry.{illegal}
-use Rattle.fleet_trace.proofs.ErrandNames.{impossible}
+use Rattle.fleet_trace.proofs.OpeningParts.{none_out, some_out}
 use Rattle.fleet_trace.proofs.judging.next.opening_after.Goals as goal
 
-pub returns-then-not-branch : goal.returns-then-not-branch
-returns-then-not-branch c = λ sound.
-    absurd (impossible (sym c.if-not-branch.true ∙ c.in_ok-is_in_order.ensures.1 (legal-opening c.args.grid.now (history_of c.args.chapter.now) sound.legal)))
+pub returns-in-Some : goal.returns-in-Some
+returns-in-Some c = λ sound.
+    absurd (some_out c.args.grid.now c.args.chapter.now.opening c.in_ok-opening_fault.field-0 c.in_ok-opening_fault.ensures c.in-Some.field-0 c.in-Some.is (legal-opening c.args.grid.now (history_of c.args.chapter.now) sound.legal))
+
+pub state_after-requires-clause-order : goal.state_after-requires-clause-order
+state_after-requires-clause-order c = none_out c.args.grid.now c.args.chapter.now.opening c.in_ok-opening_fault.field-0 c.in_ok-opening_fault.ensures c.in_default.is
 
 pub next_opening-requires : goal.next_opening-requires
 next_opening-requires c = sym (queue-count c.in-Ok.ensures.state)
