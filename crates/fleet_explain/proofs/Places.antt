@@ -9,8 +9,8 @@ use Rattle.std.proofs.lemmas.Fmt.{decimal_is_IsNumeral}
 use Rattle.std.proofs.lemmas.List.{append_assoc}
 use Rattle.fleet_map.specs.declared.fault.MapFault.{MapFault}
 use Rattle.fleet_map.specs.declared.fault.MapFault.TheVariants as map
-use Rattle.fleet_trace.specs.declared.read.form.FormPart.{FormPart}
-use Rattle.fleet_trace.specs.declared.read.form.FormPart.TheVariants as form
+use Rattle.fleet_trace.specs.declared.part.FormPart.{FormPart}
+use Rattle.fleet_trace.specs.declared.part.FormPart.TheVariants as form
 use Rattle.fleet_explain.specs.declared.limits.LimitKind.{LimitKind}
 use Rattle.fleet_explain.specs.declared.limits.LimitKind.TheVariants as kind
 use Rattle.fleet_book.specs.declared.limit.Limit.TheVariants as limit

@@ -1,5 +1,5 @@
 -- The entry that has a stamp outside of its robot's law.
-use Rattle.std.proofs.Common.{◌≡◌, ◌∙◌, ℕ, ◌-◌, ◌<◌, ◌≤◌, Bool, true, false, inl, inr, List, [], ◌∷◌, ◌++◌, Option, Some, None, refl, sym, ap, subst, arith, map}
+use Rattle.std.proofs.Common.{◌≡◌, ◌∙◌, ℕ, ◌-◌, ◌≤◌, Bool, true, false, inl, inr, List, [], ◌∷◌, ◌++◌, Option, Some, None, refl, sym, ap, subst, arith, map}
 use Rattle.std.specs.Prelude.{All, slice_get, nat_lt, ◌||◌, if◌then◌else◌}
 use Rattle.std.proofs.lemmas.Bool.{cases_lt, lt-ltb}
 use Rattle.std.proofs.lemmas.List.Elements.{All-nil, All-cons}
@@ -8,12 +8,12 @@ use Rattle.fleet_hooks.specs.declared.law.StampLaw.{StampLaw}
 use Rattle.fleet_hooks.specs.Law.{IsStamp}
 use Rattle.fleet_history.specs.declared.history.Arrival.{Arrival}
 use Rattle.fleet_history.specs.declared.history.Bye.{Bye}
+use Rattle.fleet_history.specs.declared.history.RobotState.{RobotState}
 use Rattle.fleet_history.specs.declared.history.Entry.{Entry}
 use Rattle.fleet_history.specs.declared.history.Entry.TheVariants.{Take, Tick, Shut}
 use Rattle.fleet_history.specs.History.{History}
 use Rattle.fleet_history.specs.Legal.{arrival_law, farewell_law}
 use Rattle.fleet_trace.specs.Judged.{before, Breaks, IsFirstIllegal}
-use Rattle.fleet_explain.specs.declared.detail.Detail.{Detail}
 use Rattle.fleet_explain.specs.declared.stamp.RobotStamp.{RobotStamp}
 use Rattle.fleet_explain.specs.Stamps.{by_law, arrival_stamp, farewell_stamp, stamps_of, is_outside, first_outside}
 use Rattle.fleet_explain.specs.Details.{stamp_detail, IsDetail}
@@ -102,3 +102,24 @@ stamp_told {A} m h at first e there None is =
     let k = entry_at m h at 7 (λ bad. omega (arith, bad)) first in
     let broken = subst (λ (x : Entry A). Breaks m (before h (at - 1)) x 7) (the_same (slice_get h.entries (at - 1)) k.entry e k.there there) k.breaks in
     absurd (none_breaks m (before h (at - 1)) e 7 refl (sym is) broken)
+
+-- ---- the stamps of a tick
+
+module _ {A : Type 0} (robots : List (RobotState A)) (e : Entry A) (to : List ℕ) (arrived shown : List Arrival) (farewells byes : List Bye) (is : e ≡ Tick to arrived farewells) (same : shown ≡ arrived) where
+  abbrev arrivals : List Arrival → List RobotStamp
+  arrivals xs = map (λ (a : Arrival). arrival_stamp robots a.robot a.stamp) xs
+
+  abbrev leaving : List Bye → List RobotStamp
+  leaving xs = map (λ (b : Bye). farewell_stamp robots b.robot b.stamp) xs
+
+  pub tick_some : (o : Option RobotStamp) (s : RobotStamp) → o ≡ first_outside (map (λ (a : Arrival). arrival_stamp robots a.robot a.stamp) shown) → o ≡ Some s → Some s ≡ first_outside (stamps_of robots e)
+  tick_some o s found some =
+      let here : first_outside (arrivals arrived) ≡ Some s = ap (λ (xs : List Arrival). first_outside (arrivals xs)) (sym same) ∙ (sym found ∙ some) in
+      subst (λ (x : Entry A). Some s ≡ first_outside (stamps_of robots x)) (sym is) (sym (first_in (arrivals arrived) (leaving farewells) s here))
+
+  pub tick_none : (o p : Option RobotStamp) → o ≡ first_outside (map (λ (a : Arrival). arrival_stamp robots a.robot a.stamp) shown) → o ≡ None → byes ≡ farewells
+      → p ≡ first_outside (map (λ (b : Bye). farewell_stamp robots b.robot b.stamp) byes) → p ≡ first_outside (stamps_of robots e)
+  tick_none o p found none alike rest =
+      let here : first_outside (arrivals arrived) ≡ None = ap (λ (xs : List Arrival). first_outside (arrivals xs)) (sym same) ∙ (sym found ∙ none) in
+      subst (λ (x : Entry A). p ≡ first_outside (stamps_of robots x)) (sym is)
+      (rest ∙ (ap (λ (xs : List Bye). first_outside (leaving xs)) alike ∙ sym (first_past (arrivals arrived) (leaving farewells) here)))

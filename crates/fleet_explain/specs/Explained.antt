@@ -4,14 +4,14 @@ use Rattle.std.specs.declared.alloc.Global.{Global}
 use Rattle.fleet_map.specs.Text.{lines_of}
 use Rattle.fleet_map.specs.Grammar.{Map, map_of}
 use Rattle.fleet_map.specs.declared.fault.MapFault.TheVariants.{Cell}
-use Rattle.fleet_grid.specs.Floor.{Floor, floor_of_map}
+use Rattle.fleet_grid.specs.Floor.{floor_of_map}
 use Rattle.fleet_history.specs.History.{History}
 use Rattle.fleet_history.specs.Legal.{IsLegal}
 use Rattle.fleet_script.specs.Script.{Plan, script_of}
-use Rattle.fleet_trace.specs.declared.fault.TraceFault.TheVariants.{NotJson, Version, Shape}
+use Rattle.fleet_trace.specs.declared.fault.TraceFault.TheVariants.{NotJson, Version}
 use Rattle.fleet_trace.specs.Trace.{Trace}
 use Rattle.fleet_trace.specs.Reads.{Tells, IsTraceFault}
-use Rattle.fleet_trace.specs.FormFault.{IsFormFault}
+use Rattle.fleet_trace.specs.Misformed.{IsFormFault}
 use Rattle.fleet_trace.specs.Judged.{IsFirstIllegal}
 use Rattle.fleet_explain.specs.declared.explanation.Explanation.{Explanation}
 use Rattle.fleet_explain.specs.declared.explanation.Explanation.TheVariants as explanation
@@ -58,7 +58,7 @@ pub data IsScriptExplained (map script : List ℕ) (e : Explanation) : Type 0 wh
 abbrev pub IsNoTrace : List ℕ → Explanation → Type 0
 IsNoTrace trace (explanation.NotJson position) = IsTraceFault trace NotJson
 IsNoTrace trace explanation.Version = IsTraceFault trace Version
-IsNoTrace trace (explanation.Form part) = IsTraceFault trace Shape × IsFormFault trace part
+IsNoTrace trace (explanation.Form part) = IsFormFault trace part
 IsNoTrace trace _ = ⊥
 
 -- the history is legal on the map, or this is the first entry that breaks a rule

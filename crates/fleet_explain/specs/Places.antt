@@ -2,8 +2,8 @@
 use Rattle.std.specs.Prelude.{⊤, ℕ, ◌^◌, ◌<◌}
 use Rattle.fleet_map.specs.declared.fault.MapFault.{MapFault}
 use Rattle.fleet_map.specs.declared.fault.MapFault.TheVariants as map
-use Rattle.fleet_trace.specs.declared.read.form.FormPart.{FormPart}
-use Rattle.fleet_trace.specs.declared.read.form.FormPart.TheVariants as form
+use Rattle.fleet_trace.specs.declared.part.FormPart.{FormPart}
+use Rattle.fleet_trace.specs.declared.part.FormPart.TheVariants as form
 use Rattle.fleet_explain.specs.declared.explanation.Explanation.{Explanation}
 use Rattle.fleet_explain.specs.declared.explanation.Explanation.TheVariants as explanation
 

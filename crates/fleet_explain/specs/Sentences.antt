@@ -7,8 +7,8 @@ use Rattle.fleet_map.specs.declared.fault.MapFault.{MapFault}
 use Rattle.fleet_map.specs.declared.fault.MapFault.TheVariants as map
 use Rattle.fleet_trace.specs.declared.part.OpeningPart.{OpeningPart}
 use Rattle.fleet_trace.specs.declared.part.OpeningPart.TheVariants as opening
-use Rattle.fleet_trace.specs.declared.read.form.FormPart.{FormPart}
-use Rattle.fleet_trace.specs.declared.read.form.FormPart.TheVariants as form
+use Rattle.fleet_trace.specs.declared.part.FormPart.{FormPart}
+use Rattle.fleet_trace.specs.declared.part.FormPart.TheVariants as form
 use Rattle.fleet_check.specs.declared.fault.StepFault.{StepFault}
 use Rattle.fleet_check.specs.declared.fault.StepFault.TheVariants as step
 use Rattle.fleet_explain.specs.declared.arrival.ArrivalName.{ArrivalName}

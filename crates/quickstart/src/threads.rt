@@ -28,6 +28,7 @@ const ALL: u64 = 6;
 const ROUNDS: u64 = 1_000_000_000;
 
 /// What the threads tell one another.
+#[derive(Drop)]
 struct Day {
     /// The errands that were posted.
     posted: AtomicU64,

@@ -1,6 +1,5 @@
 -- The arrivals that are due, next to those that are shown.
 use Rattle.std.proofs.Common.{◌≡◌, ◌∙◌, List, ap, map, rules, subst}
-use Rattle.fleet_history.specs.declared.history.Arrival.{Arrival}
 use Rattle.fleet_history.specs.Legal.{Due as Arriving, due_of}
 use Rattle.fleet_explain.specs.Details.{IsArrivalDetail}
 use Rattle.fleet_explain.proofs.arrival.arrival_detail.Goals as goal
