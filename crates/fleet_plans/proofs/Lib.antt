@@ -12,6 +12,7 @@ pub mod Pieces
 mod Turns
 pub mod Grammar
 mod Tables
+mod Schedules
 mod Seatings
 mod Going
 mod Leading
