@@ -1,14 +1,15 @@
 -- What the lines of a plan's text say, as relations: with a head, of a table, and as YAML.
-use Rattle.std.specs.Prelude.{◌≡◌, ℕ, ◌+◌, ◌≤◌, Bool, true, not, ◌&&◌, ◌||◌, List, [], ◌∷◌, ◌++◌, filter, length, Some, slice_get, slice_index_or, codes}
+use Rattle.std.specs.Prelude.{◌≡◌, ℕ, ◌+◌, ◌≤◌, Bool, true, not, ◌&&◌, ◌||◌, List, [], ◌∷◌, ◌++◌, filter, length, Some, Ok, slice_get, slice_index_or, codes}
 use Rattle.std.specs.List.{list_all}
 use Rattle.std.specs.Str.{bytes_eq}
 use Rattle.fleet_map.specs.Text.{is_empty, number_of}
+use Rattle.fleet_plans.specs.declared.limit.TheConstants.{MOST_PLAN_BYTES}
 use Rattle.fleet_plans.specs.Form.{is_header}
 use Rattle.fleet_plans.specs.Head.{Head, Opened, blank_head, split_once, with_line}
 use Rattle.fleet_plans.specs.Places.{begins, is_number, place_in}
 use Rattle.fleet_plans.specs.Scenario.{cell_of, word_at}
-use Rattle.fleet_plans.specs.Schedule.{is_robot, robot_in}
-use Rattle.fleet_plans.specs.Table.{Fields, fields_of}
+use Rattle.fleet_plans.specs.Schedule.{is_robot, robot_in, schedule_of}
+use Rattle.fleet_plans.specs.Table.{Fields, Trails, fields_of, paths_of}
 use Rattle.fleet_plans.specs.Tracks.{is_move}
 use Rattle.fleet_plans.specs.Valid.{place_at}
 
@@ -77,7 +78,7 @@ pub record IsTable (w h : ℕ) (lines paths : List (List ℕ)) : Type 0 where
   pub each : (k : ℕ) (line : List ℕ) → slice_get cells k ≡ Some line → AgreesWith w h paths line
   pub all : (robot time cell : ℕ) → HasAt paths robot time cell → IsPut w h cells robot time cell
 
--- ---- YAML
+-- ---- YAML: after the line `schedule:` each line is `agentK:`, `- x: COLUMN`, `y: ROW` or `t: TIME`, and only the last puts a robot on a cell
 
 -- a line `schedule:`
 abbrev pub is_schedule : List ℕ → Bool
@@ -141,7 +142,7 @@ pub record PutsAfter (w h : ℕ) (lines : List (List ℕ)) (line : List ℕ) (st
   pub timed : is_number stay.time (number_of (word_at line 1)) ≡ true
   pub there : cell_of w h (word_at column 2) (word_at row 1) ≡ Some stay.cell
 
--- where lines put robots, in their order
+-- where lines put robots, in their order: each is silent or puts one on a cell
 pub data ArePut (w h : ℕ) : List (List ℕ) → List Stay → Type 0 where
   nothing : ArePut w h [] []
   silent : {lines : List (List ℕ)} {stays : List Stay} (line : List ℕ) {all : List (List ℕ)} → ArePut w h lines stays → is_silent line ≡ true → all ≡ lines ++ line ∷ [] → ArePut w h all stays
@@ -169,3 +170,12 @@ pub record IsSchedule (w h : ℕ) (lines paths : List (List ℕ)) : Type 0 where
   pub are_put : ArePut w h cells (all_stays 0 paths)
   pub some : 1 ≤ length paths
   pub none_empty : list_all (λ path. not (is_empty path)) paths ≡ true
+
+-- there are not more paths, nor longer ones, than the longest text has bytes
+pub record AreFew (paths : List (List ℕ)) : Type 0 where
+  pub few : length paths ≤ MOST_PLAN_BYTES
+  pub short : (robot : ℕ) → length (slice_index_or paths robot []) ≤ MOST_PLAN_BYTES
+
+-- these paths are read of the lines
+abbrev pub HasPaths : ℕ → ℕ → List (List ℕ) → List (List ℕ) → Type 0
+HasPaths w h lines paths = (t : Trails) × (paths ≡ paths_of t) × (schedule_of w h 1 lines ≡ Ok t)
