@@ -12,6 +12,10 @@ pub mod Pieces
 mod Turns
 pub mod Grammar
 mod Tables
+mod Stays
+mod Schedules
+mod Drafts
+mod Rests
 mod Seatings
 mod Going
 mod Leading

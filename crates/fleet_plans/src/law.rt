@@ -3,10 +3,11 @@
 ghost use Rattle.std.specs.Prelude.{◌≡◌, ◌<◌, ℕ, List, [], Ok, length};
 ghost use Rattle.fleet_grid.specs.Floor.{Floor};
 ghost use Rattle.fleet_grid.specs.Step.{IsPlacement};
-ghost use Rattle.fleet_plans.specs.Grammar.{IsHead, IsTable, ArePlaces, AreTracks};
+ghost use Rattle.fleet_plans.specs.Grammar.{AreFew, HasPaths, IsHead, IsSchedule, IsTable, ArePlaces, AreTracks};
 ghost use Rattle.fleet_plans.specs.Head.{Head, Opened, blank_head, head_of};
 ghost use Rattle.fleet_plans.specs.Leads.{Leads};
 ghost use Rattle.fleet_plans.specs.Places.{places_of};
+ghost use Rattle.fleet_plans.specs.Schedule.{schedule_of};
 ghost use Rattle.fleet_plans.specs.Table.{Trails, paths_of, table_of};
 ghost use Rattle.fleet_plans.specs.Tracks.{moved, tracks_of};
 ghost use Rattle.fleet_plans.specs.Valid.{place_at, IsValidPlan};
@@ -29,6 +30,14 @@ pub fn a_text_is_by_its_lines()
 /// another cell.
 pub fn a_table_is_by_its_lines()
     ensures { (w h : ℕ) (lines : List (List ℕ)) (t : Trails) → table_of w h lines ≡ Ok t → IsTable w h lines (paths_of t) }
+{}
+
+/// The paths that are read of YAML are what its lines say: each line `t: TIME` puts the robot that was named last on the
+/// cell that the lines before it say, and in their order these are the cells of the paths. Each text of which that holds
+/// is read, unless it has more robots or longer paths than any text that is read.
+pub fn a_schedule_is_by_its_lines()
+    ensures only { (w h : ℕ) (lines : List (List ℕ)) (t : Trails) → schedule_of w h 1 lines ≡ Ok t → IsSchedule w h lines (paths_of t) }
+    ensures each { (w h : ℕ) (lines paths : List (List ℕ)) → AreFew paths → IsSchedule w h lines paths → HasPaths w h lines paths }
 {}
 
 /// A letter leads to the next cell in its direction, or off the map if there is none; with `w` a robot stays, and off

@@ -42,8 +42,8 @@ pub use goals::GoalFault;
 pub use judge::PlanJudge;
 pub use judging::{FaultText, PlanFault};
 pub use law::{
-    a_table_is_by_its_lines, a_text_is_by_its_lines, letters_lead_to_the_next_cell,
-    robots_stay_apart,
+    a_schedule_is_by_its_lines, a_table_is_by_its_lines, a_text_is_by_its_lines,
+    letters_lead_to_the_next_cell, robots_stay_apart,
 };
 pub use limit::MOST_PLAN_BYTES;
 pub use misspelt::{KnownKey, Misspelt, first_misspelt};
