@@ -2,6 +2,7 @@
 
 import importlib.util
 import os
+import re
 import pathlib
 import subprocess
 import tempfile
@@ -54,5 +55,8 @@ class KeptChaptersTest(unittest.TestCase):
     def refused(self, told, status, *words, **heads):
         """The fleet does not go on, says why, and leaves the folder as it is."""
         before = {name: (self.traces / name).read_bytes() for name in self.chapters()}
-        self.assertEqual(self.on("look\n", *words, **heads), ("", f"fleet: file {told}\n", status))
+        output, complaint, ended = self.on("look\n", *words, **heads)
+        # (where the reader of JSON stopped is by its own account)
+        complaint = re.sub(r": its reader stopped at line [1-9]\d*, column [1-9]\d*\n", "\n", complaint)
+        self.assertEqual((output, complaint, ended), ("", f"fleet: file {told}\n", status))
         self.assertEqual({name: (self.traces / name).read_bytes() for name in self.chapters()}, before)

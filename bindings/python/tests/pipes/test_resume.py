@@ -110,11 +110,11 @@ class ResumeTest(KeptChaptersTest):
             self.on("look\n")
         last = self.traces / "chapter-2.json"
         whole = last.read_text()
-        not_json = "the trace: it is not UTF-8, or not JSON, or nested deeper than 127: its reader stopped at line 1, column "
+        not_json = "the trace: it is not UTF-8, or not JSON, or nested deeper than 127"
         for text, why in (
-            ("no trace", f"{not_json}2"),
-            ("", f"{not_json}1"),
-            (whole[:-9], f"{not_json}{len(whole) - 8}"),
+            ("no trace", not_json),
+            ("", not_json),
+            (whole[:-9], not_json),
             ('{"version":3}', "the trace: the number under `version` is not 1 or 2"),
             ('{"version":2}', "the trace: its keys are not `version`, `chapter`, `opening` and `entries`, and no other"),
             (whole.replace('"chapter":2', '"chapter":7'), "it is chapter 7"),
