@@ -137,8 +137,8 @@ typedef NASHIRUDDER_ENUM(nashirudder_code) {
 
     /* why a fleet does not go on from a kept chapter */
     NASHIRUDDER_TRACE_NOT_JSON = 50,     /* the text is not UTF-8, not JSON, or nested deeper than 127 */
-    NASHIRUDDER_TRACE_VERSION = 51,      /* the number under `version` is that of no known version */
-    NASHIRUDDER_TRACE_SHAPE = 52,        /* the text has not the form of a trace */
+    NASHIRUDDER_TRACE_VERSION = 51,      /* the number under `version` is not 1 or 2 */
+    NASHIRUDDER_TRACE_SHAPE = 52,        /* the text is JSON, but not in the form of a trace */
     NASHIRUDDER_CHAPTER_ILLEGAL = 53,    /* the chapter is not legal on the map: the entry `first` breaks the rule `second` (docs/TRACE.md) */
     NASHIRUDDER_LAWS_DIFFER = 54,        /* the robots are not as many as the chapter's, or the chapter has stamps other than 0 */
     NASHIRUDDER_LIMITS_DIFFER = 55,      /* `queue` or `life` is not that of the chapter */

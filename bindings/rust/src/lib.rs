@@ -119,9 +119,9 @@ pub enum Code {
     GoalBlocked,
     /// The text is not UTF-8, not JSON, or nested deeper than 127.
     TraceNotJson,
-    /// The number under `version` is that of no known version.
+    /// The number under `version` is not 1 or 2.
     TraceVersion,
-    /// The text has not the form of a trace.
+    /// The text is JSON, but not in the form of a trace.
     TraceShape,
     /// The chapter is not legal on the map: the entry `first` breaks the rule `second` (docs/TRACE.md).
     ChapterIllegal,

@@ -56,8 +56,8 @@ step_text code =
 abbrev pub trace_text : ℕ → List ℕ
 trace_text code =
     if code == 50 then codes "the trace: it is not UTF-8, or not JSON, or nested deeper than 127"
-    else if code == 51 then codes "the trace: the number under `version` is that of no known version"
-    else if code == 52 then codes "the trace: it has not the form of a trace"
+    else if code == 51 then codes "the trace: the number under `version` is not 1 or 2"
+    else if code == 52 then codes "the trace: it is JSON, but not in the form of a trace"
     else if code == 53 then codes "the trace: entry # breaks rule %"
     else if code == 54 then codes "the robots are not as many as the chapter's, or have other laws"
     else if code == 55 then codes "the limits `queue` and `life` are not those of the chapter"

@@ -83,9 +83,9 @@ pub const GOAL_BLOCKED: u32 = 49;
 
 /// The text is not UTF-8, not JSON, or nested deeper than 127.
 pub const TRACE_NOT_JSON: u32 = 50;
-/// The number under `version` is that of no known version.
+/// The number under `version` is not 1 or 2.
 pub const TRACE_VERSION: u32 = 51;
-/// The text has not the form of a trace.
+/// The text is JSON, but not in the form of a trace.
 pub const TRACE_SHAPE: u32 = 52;
 /// The chapter is not legal on the map: the entry, and the rule that it breaks.
 pub const CHAPTER_ILLEGAL: u32 = 53;

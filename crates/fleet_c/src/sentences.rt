@@ -88,8 +88,8 @@ fn trace_text(code: u32) -> &'static str
 {
     match code {
         50 => "the trace: it is not UTF-8, or not JSON, or nested deeper than 127",
-        51 => "the trace: the number under `version` is that of no known version",
-        52 => "the trace: it has not the form of a trace",
+        51 => "the trace: the number under `version` is not 1 or 2",
+        52 => "the trace: it is JSON, but not in the form of a trace",
         53 => "the trace: entry # breaks rule %",
         54 => "the robots are not as many as the chapter's, or have other laws",
         55 => "the limits `queue` and `life` are not those of the chapter",
