@@ -72,7 +72,7 @@ fn tick<N: OfficeName<Global>, R: Alloc<A = Global> + Wait>(
             break;
         }
         if arrived == day.posted.load(Ordering::SeqCst) {
-            // (a turn would only add a tick to the history, whose chapter has room for so many)
+            // (a turn would only add a tick to the chapter, which can get full)
             yield_now();
             continue;
         }
