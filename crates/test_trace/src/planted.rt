@@ -46,7 +46,7 @@ const LATE: Arrival = Arrival {
 };
 
 /// Chapters, and the entry and the rule that each breaks first.
-const PLANTED: [(Told, Option<(u64, u8)>); 11] = [
+const PLANTED: [(Told, Option<(u64, u8)>); 12] = [
     (LEGAL, None),
     (Told { start: 0, ..LEGAL }, Some((0, 1))),
     (Told { client: 1, ..LEGAL }, Some((1, 2))),
@@ -61,6 +61,15 @@ const PLANTED: [(Told, Option<(u64, u8)>); 11] = [
     (
         Told {
             to: [1, 1],
+            ..LEGAL
+        },
+        Some((2, 4)),
+    ),
+    // The robots exchange their cells.
+    (
+        Told {
+            start: 1,
+            to: [1, 0],
             ..LEGAL
         },
         Some((2, 4)),
