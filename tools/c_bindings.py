@@ -160,6 +160,10 @@ def compare_version(text):
     cargo = re.search(r'^version = "(.*)"', (BINDINGS / "rust" / "Cargo.toml").read_text(), re.M)[1]
     rust = int(re.search(r"^const VERSION: u32 = (\d+);", (BINDINGS / "rust" / "src" / "lib.rs").read_text(), re.M)[1])
     python = int(re.search(r"^VERSION = (\d+)$", (BINDINGS / "python" / "nashirudder" / "calls.py").read_text(), re.M)[1])
+    kept = re.search(r'^SONAME = "(.*)"$', (BINDINGS / "python" / "nashirudder" / "finding.py").read_text(), re.M)[1]
+    wanted = f"libnashirudder.so.{parts[0]}" if parts[0] > 0 else f"libnashirudder.so.0.{parts[1]}"
+    if not c_sources.SONAME == kept == wanted:
+        fail(f"the shared library is {c_sources.SONAME}, for bindings/python {kept}, and should be {wanted}")
     if constants("version")["VERSION"] != number or rust != number or cargo != ".".join(map(str, parts)) or python != number // 100:
         fail(f"the header's version is {parts}, the sources' {constants('version')['VERSION']}, of bindings/rust {cargo} and {rust}, of bindings/python {python}")
     say(f"version: {cargo}, in the sources, the header and the bindings")
@@ -192,7 +196,8 @@ def compare_names(defined):
     if rust != {number: name for number, name in answers.items() if number != "0"}:
         fail("the codes of bindings/rust differ from the header's")
     rust_verdicts = re.findall(r'Verdict::\w+(?:\(_\))? => "([\w-]+)"', (BINDINGS / "rust" / "src" / "lib.rs").read_text())
-    if rust_verdicts != list(verdicts.values()):
+    # The last one stands for numbers that the crate does not have.
+    if rust_verdicts != [*verdicts.values(), "unknown"]:
         fail("the verdicts of bindings/rust differ from the sources'")
     say(f"words: {len(answers)} for codes, {len(verdicts)} for verdicts, the same in C, C++, Python and Rust")
 

@@ -1,8 +1,9 @@
 """What the sources of the crate fleet_c export to C: used by tools/build_c, tools/install_c and tools/quick_c.py."""
 import re
 
-# The number is that of the binary interface. A program that was linked with one number runs with no other.
-SONAME = "libnashirudder.so.0"
+# The number is that of the binary interface: before 1.0.0 major and minor version, as the header says, and then the major one alone.
+# A program that was linked with one number runs with no other.
+SONAME = "libnashirudder.so.0.1"
 
 STRUCT = re.compile(r"#\[repr\(C\)\]\s*(?:#\[derive\([^)]*\)\]\s*)?pub struct (\w+) \{(.*?)\n\}", re.S)
 EXPORT = re.compile(r'pub extern "C" fn (\w+)\(([^)]*)\)(?: -> (\w+))?')

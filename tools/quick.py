@@ -152,11 +152,3 @@ def describe(readme, names, tool, is_quick, built_of):
     readme.write_text(
         f"Made by {tool}. `{tool}` proves and replaces what is quick; `{tool} --quick` builds without proofs.\n\n"
         "| File | Build | When | Commit |\n|---|---|---|---|\n" + "".join(lines))
-
-
-def built(path):
-    """The whole path of a program that a tool runs; without one, ends with the way to build it."""
-    if not os.path.isfile(path):
-        raise SystemExit(f"{sys.argv[0]}: there is no program {path}: tools/install --quick makes errands, fleet and "
-                         "depot in bin/")
-    return os.path.abspath(path)

@@ -23,8 +23,8 @@ class Controller {
 public:
     Controller(const std::string &map, const std::string &folder)
         : fleet(map, {{0, {}}, {1, {}}, {2, {}}, {3, {}}}, limits()), folder(folder) {
-        // A chapter that is full is stored, and the next one begins by itself. A thread could write it meanwhile.
-        fleet.roll([this](nashirudder::Chapter chapter) { store(chapter.trace()); });
+        // A chapter that is full is stored, and then the next one begins by itself. One that could not be stored stays.
+        fleet.roll([this](const nashirudder::Chapter &chapter) { return store(chapter.trace()); });
     }
 
     /* One turn: each robot without an errand gets one, then all move, then all notices are read. */
@@ -43,25 +43,34 @@ public:
     }
 
     /* Stores the chapter that is not full. */
-    void end() { store(fleet.trace()); }
+    [[nodiscard]] bool end() { return store(fleet.trace()); }
 
 private:
-    /* Writes the trace of a chapter. */
-    void store(const std::string &trace) {
-        std::ofstream(folder + "/chapter-" + std::to_string(chapters++) + ".json") << trace << '\n';
+    /* Writes the trace of a chapter; false where that fails. */
+    bool store(const std::string &trace) {
+        std::string name = folder + "/chapter-" + std::to_string(chapters) + ".json";
+        std::ofstream file(name);
+        file << trace << '\n';
+        file.close();
+        if (!file) {
+            std::fprintf(stderr, "%s cannot be written\n", name.c_str());
+            return false;
+        }
+        chapters++;
+        return true;
     }
 
     /* An order. A refused order is no exception: the verdict says it, and has to be looked at. */
     void send(std::uint32_t client, std::uint32_t robot, std::uint32_t cell) {
         auto judged = fleet.go(client, robot, cell);
-        if (judged.verdict == NASHIRUDDER_ACCEPTED) {
+        if (judged.verdict == nashirudder::Verdict::accepted) {
             accepted++;
         } else {
-            refused++;                       // a shelf (NASHIRUDDER_BLOCKED), say: the next turn tries another cell
+            refused++;                       // a shelf (Verdict::blocked), say: the next turn tries another cell
         }
     }
 
-    /* A client whose notices are not read gets no further order taken: NASHIRUDDER_MAILBOX_FULL. */
+    /* A client whose notices are not read gets no further order taken: Code::mailbox_full. */
     void read_notices(std::uint32_t client) {
         while (auto note = fleet.give(client)) {
             if (note->verdict == 0) arrived++;
@@ -81,12 +90,16 @@ private:
     std::size_t accepted = 0, refused = 0, arrived = 0, chapters = 0;
 };
 
-int main(int, char **words) {
+int main(int count, char **words) try {
+    if (count != 4) return 2;
     std::ifstream file(words[1]);
     std::string map{std::istreambuf_iterator<char>(file), {}};
     Controller controller(map, words[3]);
     std::mt19937 draw(1);
     for (long tick = std::strtol(words[2], nullptr, 10); tick > 0; tick--) controller.turn(draw, 45);
-    controller.end();
+    if (!controller.end()) return 1;
     controller.print();
+} catch (const nashirudder::Refused &refused) { // the map, an order, or a tick whose full chapter was not stored
+    std::fprintf(stderr, "%s\n", refused.what());
+    return 1;
 }

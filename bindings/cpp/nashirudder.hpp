@@ -26,18 +26,19 @@
 #include <cstdint>
 #include <functional>
 #include <initializer_list>
+#include <memory>
 #include <new>
 #include <optional>
 #include <stdexcept>
 #include <string>
 #include <string_view>
+#include <tuple>
+#include <type_traits>
 #include <utility>
 #include <vector>
 
 #if __cplusplus >= 202002L
 #include <span>
-#else
-#include <type_traits>
 #endif
 
 #if defined(__cpp_exceptions)
@@ -121,6 +122,40 @@ enum class State : std::uint32_t {
     free = NASHIRUDDER_FREE, busy = NASHIRUDDER_BUSY, shut = NASHIRUDDER_SHUT,
 };
 
+/* The library's structs have numbers; each is compared with the name of its enum class. */
+inline bool operator==(std::uint32_t told, Code code) { return told == static_cast<std::uint32_t>(code); }
+inline bool operator==(std::uint32_t told, Verdict verdict) { return told == static_cast<std::uint32_t>(verdict); }
+inline bool operator==(std::uint32_t told, State state) { return told == static_cast<std::uint32_t>(state); }
+#if __cplusplus < 202002L
+template <typename Name, typename = std::enable_if_t<std::is_same_v<Name, Code> || std::is_same_v<Name, Verdict> || std::is_same_v<Name, State>>>
+bool operator==(Name name, std::uint32_t told) { return told == name; }
+template <typename Name, typename = std::enable_if_t<std::is_same_v<Name, Code> || std::is_same_v<Name, Verdict> || std::is_same_v<Name, State>>>
+bool operator!=(Name name, std::uint32_t told) { return !(told == name); }
+template <typename Name, typename = std::enable_if_t<std::is_same_v<Name, Code> || std::is_same_v<Name, Verdict> || std::is_same_v<Name, State>>>
+bool operator!=(std::uint32_t told, Name name) { return !(told == name); }
+#endif
+
+namespace detail {
+
+/* What two structs of the library are compared by. */
+inline auto fields(const Robot &it) { return std::make_tuple(it.cell, it.ranks[0], it.ranks[1], it.ranks[2], it.ranks[3]); }
+inline auto fields(const Setup &it) {
+    return std::make_tuple(it.clients, it.life, it.orders, it.clock, it.lane, it.outlet, it.queue, it.mailbox, it.chapter, it.chapters);
+}
+inline auto fields(const Fault &it) { return std::make_tuple(it.code, it.first, it.second); }
+inline auto fields(const Judgement &it) { return std::make_tuple(it.verdict, it.number); }
+inline auto fields(const Report &it) { return std::make_tuple(it.tick, it.arrived, it.farewells); }
+inline auto fields(const Note &it) { return std::make_tuple(it.seq, it.order, it.number, it.tick, it.verdict, it.robot, it.cell, it.stamp); }
+inline auto fields(const Edge &it) { return std::make_tuple(it.lower, it.upper); }
+inline auto fields(const Order &it) { return std::make_tuple(it.kind, it.client, it.robot, it.cell, it.number); }
+inline auto fields(const Arrival &it) { return std::make_tuple(it.robot, it.client, it.number, it.cell, it.stamp); }
+inline auto fields(const Shape &it) { return std::make_tuple(it.height, it.width, it.cells, it.floor, it.edges); }
+inline auto fields(const Errand &it) { return std::make_tuple(it.client, it.number, it.robot, it.place, it.cell); }
+inline auto fields(const Standing &it) { return std::make_tuple(it.cell, it.goal, it.state, it.wait, it.errands); }
+inline auto fields(const Account &it) { return std::make_tuple(it.taken, it.owed, it.pending, it.room); }
+
+} // namespace detail
+
 inline Code code_of(const Fault &fault) { return static_cast<Code>(fault.code); }
 inline Verdict verdict_of(const Judgement &judgement) { return static_cast<Verdict>(judgement.verdict); }
 inline Verdict verdict_of(const Note &note) { return static_cast<Verdict>(note.verdict); }
@@ -140,6 +175,16 @@ inline std::string message_of(const Fault &fault) {
     text.pop_back();
     return text;
 }
+
+} // namespace nashirudder
+
+/* The structs of the library are equal where all their fields are. */
+template <typename Told, typename = decltype(nashirudder::detail::fields(std::declval<const Told &>()))>
+bool operator==(const Told &one, const Told &other) { return nashirudder::detail::fields(one) == nashirudder::detail::fields(other); }
+template <typename Told, typename = decltype(nashirudder::detail::fields(std::declval<const Told &>()))>
+bool operator!=(const Told &one, const Told &other) { return !(one == other); }
+
+namespace nashirudder {
 
 /* A call was refused. `fault` has the code, and the numbers that it names; what() is its sentence. */
 class Refused : public std::runtime_error {
@@ -175,6 +220,13 @@ struct Shown {
 inline bool is_proved() noexcept { return nashirudder_is_proved(); }
 
 namespace detail {
+
+/* A copy of a handle, for a call that only looks. */
+template <typename Handle> struct Seen {
+    Handle copy;
+    operator Handle *() { return &copy; }
+};
+template <typename Handle> Seen(const Handle &) -> Seen<Handle>;
 
 /* A list's address. */
 template <typename T> T *address(Span<T> list) { return list.data(); }
@@ -241,16 +293,18 @@ template <typename Call> std::string text_by(Call call) {
 
 } // namespace detail
 
-/* A chapter that a fleet handed out. Its text can be written in another thread, while the fleet goes on. */
+/* A chapter: one that a fleet handed out, whose text can be written in another thread while the fleet goes on; or the full one of
+   a fleet that rolls, which its keeper reads before the next begins. */
 class Chapter {
 public:
     Chapter(const Chapter &) = delete;
     Chapter &operator=(const Chapter &) = delete;
-    Chapter(Chapter &&other) noexcept : handle(std::exchange(other.handle, nashirudder_chapter NASHIRUDDER_CLOSED)) {}
+    Chapter(Chapter &&other) noexcept : handle(std::exchange(other.handle, nashirudder_chapter NASHIRUDDER_CLOSED)), full(other.full) {}
     Chapter &operator=(Chapter &&other) noexcept {
         if (this != &other) {
             nashirudder_chapter_close(&handle);
             handle = std::exchange(other.handle, nashirudder_chapter NASHIRUDDER_CLOSED);
+            full = other.full;
         }
         return *this;
     }
@@ -258,14 +312,17 @@ public:
 
     /* Its trace. */
     [[nodiscard]] std::string trace() const {
-        return detail::text_by([&](std::uint8_t *text, std::size_t size, std::size_t *length) { return nashirudder_chapter_trace(&handle, text, size, length); });
+        if (full) return detail::text_by([&](std::uint8_t *text, std::size_t size, std::size_t *length) { return nashirudder_trace(detail::Seen<nashirudder_fleet>{*full}, text, size, length); });
+        return detail::text_by([&](std::uint8_t *text, std::size_t size, std::size_t *length) { return nashirudder_chapter_trace(detail::Seen{handle}, text, size, length); });
     }
 
 private:
     friend class Fleet;
     Chapter() = default;
+    explicit Chapter(const nashirudder_fleet &full) : full(&full) {}
 
     nashirudder_chapter handle = NASHIRUDDER_CLOSED;
+    const nashirudder_fleet *full = nullptr; // the fleet whose present chapter this is
 };
 
 /* A fleet. Of one that was moved from, every call but the destructor is refused. */
@@ -286,17 +343,20 @@ public:
         detail::check(nashirudder_reopen(detail::address(map), map.size(), detail::address(text), text.size(), detail::address(robots), robots.size(),
                                          &setup, &fleet.handle, &fault), fault);
         fleet.count = robots.size();
+        fleet.number = fleet.present_number();
         return fleet;
     }
     Fleet(const Fleet &) = delete;
     Fleet &operator=(const Fleet &) = delete;
     Fleet(Fleet &&other) noexcept
-        : handle(std::exchange(other.handle, nashirudder_fleet NASHIRUDDER_CLOSED)), count(other.count), rolls(other.rolls), keeper(std::move(other.keeper)) {}
+        : handle(std::exchange(other.handle, nashirudder_fleet NASHIRUDDER_CLOSED)), count(std::exchange(other.count, 0)), number(other.number),
+          rolls(other.rolls), keeper(std::move(other.keeper)) {}
     Fleet &operator=(Fleet &&other) noexcept {
         if (this != &other) {
             nashirudder_close(&handle);
             handle = std::exchange(other.handle, nashirudder_fleet NASHIRUDDER_CLOSED);
-            count = other.count;
+            count = std::exchange(other.count, 0);
+            number = other.number;
             rolls = other.rolls;
             keeper = std::move(other.keeper);
         }
@@ -389,30 +449,30 @@ public:
     /* The notice that `give` would give, which stays, or nothing. */
     [[nodiscard]] std::optional<Note> peek(std::uint32_t client) const {
         Note note{};
-        if (!detail::is_there(nashirudder_peek(&handle, client, &note), NASHIRUDDER_NO_NOTICE)) return std::nullopt;
+        if (!detail::is_there(nashirudder_peek(detail::Seen{handle}, client, &note), NASHIRUDDER_NO_NOTICE)) return std::nullopt;
         return note;
     }
     [[nodiscard]] std::uint64_t pending_count(std::uint32_t client) const {
         std::uint64_t pending = 0;
-        detail::check(nashirudder_pending_count(&handle, client, &pending));
+        detail::check(nashirudder_pending_count(detail::Seen{handle}, client, &pending));
         return pending;
     }
     /* How many orders of the client were taken, how many errands it has open, how many notices, and the room for both. */
     [[nodiscard]] Account account_of(std::uint32_t client) const {
         Account account{};
-        detail::check(nashirudder_account_of(&handle, client, &account));
+        detail::check(nashirudder_account_of(detail::Seen{handle}, client, &account));
         return account;
     }
     void widen(std::uint32_t client, std::uint64_t extra) { detail::check(nashirudder_widen(&handle, client, extra)); }
     /* Where the robots stand, by number, into a list that has one place for each. */
-    void placement(Span<std::uint32_t> cells) const { detail::check(nashirudder_placement(&handle, detail::address(cells), cells.size())); }
+    void placement(Span<std::uint32_t> cells) const { detail::check(nashirudder_placement(detail::Seen{handle}, detail::address(cells), cells.size())); }
     [[nodiscard]] std::vector<std::uint32_t> placement() const {
         std::vector<std::uint32_t> cells(count);
         placement(Span<std::uint32_t>(cells));
         return cells;
     }
     /* How each robot stands, by number, into a list that has one place for each. */
-    void standings(Span<Standing> told) const { detail::check(nashirudder_standings(&handle, told.data(), told.size())); }
+    void standings(Span<Standing> told) const { detail::check(nashirudder_standings(detail::Seen{handle}, told.data(), told.size())); }
     [[nodiscard]] std::vector<Standing> standings() const {
         std::vector<Standing> told(count);
         standings(Span<Standing>(told));
@@ -420,86 +480,110 @@ public:
     }
     /* The robot's errands, in the order of its queue. */
     [[nodiscard]] std::vector<Errand> queue(std::uint32_t robot) const {
-        return listed([&](Errand *list, std::size_t length, std::size_t *told) { return nashirudder_queue(&handle, robot, list, length, told); });
+        return listed([&](Errand *list, std::size_t length, std::size_t *told) { return nashirudder_queue(detail::Seen{handle}, robot, list, length, told); });
     }
     /* The client's errands that are accepted, and neither done nor withdrawn: by robot, and then by place in its queue. */
     [[nodiscard]] std::vector<Errand> open_errands(std::uint32_t client) const {
-        return listed([&](Errand *list, std::size_t length, std::size_t *told) { return nashirudder_open_errands(&handle, client, list, length, told); });
+        return listed([&](Errand *list, std::size_t length, std::size_t *told) { return nashirudder_open_errands(detail::Seen{handle}, client, list, length, told); });
     }
     [[nodiscard]] std::uint64_t clock() const {
         std::uint64_t ticks = 0;
-        detail::check(nashirudder_clock(&handle, &ticks));
+        detail::check(nashirudder_clock(detail::Seen{handle}, &ticks));
         return ticks;
     }
     /* How long the robot has waited, or nothing where it has no errand. */
     [[nodiscard]] std::optional<std::uint64_t> wait_of(std::uint32_t robot) const {
         std::uint64_t ticks = 0;
-        if (!detail::is_there(nashirudder_wait_of(&handle, robot, &ticks), NASHIRUDDER_IDLE)) return std::nullopt;
+        if (!detail::is_there(nashirudder_wait_of(detail::Seen{handle}, robot, &ticks), NASHIRUDDER_IDLE)) return std::nullopt;
         return ticks;
     }
     /* The robot that has waited longest, or nothing where nobody has an errand. */
     [[nodiscard]] std::optional<std::uint32_t> eldest() const {
         std::uint32_t robot = 0;
-        if (!detail::is_there(nashirudder_eldest(&handle, &robot), NASHIRUDDER_IDLE)) return std::nullopt;
+        if (!detail::is_there(nashirudder_eldest(detail::Seen{handle}, &robot), NASHIRUDDER_IDLE)) return std::nullopt;
         return robot;
     }
     /* How long that robot has waited, or nothing. */
     [[nodiscard]] std::optional<std::uint64_t> longest_wait() const {
         std::uint64_t ticks = 0;
-        if (!detail::is_there(nashirudder_longest_wait(&handle, &ticks), NASHIRUDDER_IDLE)) return std::nullopt;
+        if (!detail::is_there(nashirudder_longest_wait(detail::Seen{handle}, &ticks), NASHIRUDDER_IDLE)) return std::nullopt;
         return ticks;
     }
     /* A number of ticks that no wait reaches, or nothing on a map with a bridge. */
     [[nodiscard]] std::optional<std::uint64_t> wait_limit() const {
         std::uint64_t ticks = 0;
-        if (!detail::is_there(nashirudder_wait_limit(&handle, &ticks), NASHIRUDDER_HAS_BRIDGE)) return std::nullopt;
+        if (!detail::is_there(nashirudder_wait_limit(detail::Seen{handle}, &ticks), NASHIRUDDER_HAS_BRIDGE)) return std::nullopt;
         return ticks;
     }
     [[nodiscard]] bool is_idle() const {
         bool idle = false;
-        detail::check(nashirudder_is_idle(&handle, &idle));
+        detail::check(nashirudder_is_idle(detail::Seen{handle}, &idle));
         return idle;
     }
     /* Within how many ticks nobody has an errand any more, or nothing on a map with a bridge. */
     [[nodiscard]] std::optional<std::uint64_t> idle_within() const {
         std::uint64_t ticks = 0;
-        if (!detail::is_there(nashirudder_idle_within(&handle, &ticks), NASHIRUDDER_HAS_BRIDGE)) return std::nullopt;
+        if (!detail::is_there(nashirudder_idle_within(detail::Seen{handle}, &ticks), NASHIRUDDER_HAS_BRIDGE)) return std::nullopt;
         return ticks;
     }
     [[nodiscard]] bool is_bridgeless() const {
         bool bridgeless = false;
-        detail::check(nashirudder_is_bridgeless(&handle, &bridgeless));
+        detail::check(nashirudder_is_bridgeless(detail::Seen{handle}, &bridgeless));
         return bridgeless;
     }
     /* The trace of the present chapter. */
     [[nodiscard]] std::string trace() const {
-        return detail::text_by([&](std::uint8_t *text, std::size_t size, std::size_t *length) { return nashirudder_trace(&handle, text, size, length); });
+        return detail::text_by([&](std::uint8_t *text, std::size_t size, std::size_t *length) { return nashirudder_trace(detail::Seen{handle}, text, size, length); });
     }
-    void next_chapter() { detail::check(nashirudder_next_chapter(&handle)); }
+    void next_chapter() {
+        forbid_keeper();
+        detail::check(nashirudder_next_chapter(&handle));
+        number++;
+    }
     /* The same, and hands out the chapter that ended. */
     [[nodiscard]] Chapter hand_out() {
+        forbid_keeper();
         Chapter ended;
         detail::check(nashirudder_next_chapter_into(&handle, &ended.handle));
+        number++;
         return ended;
     }
-    /* From now on an order, a tick or a shut that finds the chapter full is made in the next one: the full one is handed to
-       `keep` first, or dropped if there is none. Only in the last of all chapters NASHIRUDDER_CHAPTER_FULL is thrown. */
-    void roll(std::function<void(Chapter)> keep = nullptr) {
+    /* From now on an order, a tick or a shut that finds the chapter full is made in the next one. The full one is dropped. Only in
+       the last of all chapters Code::chapter_full is thrown. */
+    void roll() {
+        forbid_keeper();
         rolls = true;
-        keeper = std::move(keep);
+        keeper = nullptr;
+    }
+    /* The same, but the full chapter is shown to `keep` first: a function of a const Chapter & that returns whether it kept it, or
+       nothing if it always does. Where it returns false, Code::chapter_full is thrown, and what it throws is thrown on: then fleet
+       and chapter are as they were, and the next call shows the chapter again. The chapter is gone when `keep` returns: take its
+       trace, or hand chapters out by yourself for another thread to write. Of this fleet `keep` may call what is const; a call
+       that may find the chapter full is refused by std::logic_error. */
+    template <typename Keep> void roll(Keep keep) {
+        forbid_keeper();
+        if constexpr (std::is_void_v<std::invoke_result_t<Keep &, const Chapter &>>) {
+            keeper = std::make_shared<std::function<bool(const Chapter &)>>([keep = std::move(keep)](const Chapter &chapter) mutable {
+                keep(chapter);
+                return true;
+            });
+        } else {
+            keeper = std::make_shared<std::function<bool(const Chapter &)>>(std::move(keep));
+        }
+        rolls = true;
     }
     void keep(std::size_t bytes) { detail::check(nashirudder_keep(&handle, bytes)); }
     /* How many robots there are. */
     [[nodiscard]] std::size_t robots() const { return count; }
     [[nodiscard]] std::size_t clients() const {
         std::size_t clients = 0;
-        detail::check(nashirudder_clients(&handle, &clients));
+        detail::check(nashirudder_clients(detail::Seen{handle}, &clients));
         return clients;
     }
     /* The limits, and the number of clients. */
     [[nodiscard]] Setup limits() const {
         Setup setup{};
-        detail::check(nashirudder_limits(&handle, &setup));
+        detail::check(nashirudder_limits(detail::Seen{handle}, &setup));
         return setup;
     }
 
@@ -507,14 +591,37 @@ private:
     Fleet() = default;
     /* A call that may find the chapter full. */
     template <typename Call> nashirudder_code in_chapter(Call call) {
+        forbid_keeper();
         nashirudder_code code = call();
-        if (code != NASHIRUDDER_CHAPTER_FULL || !rolls) return code;
-        Chapter ended;
-        nashirudder_code turned = nashirudder_next_chapter_into(&handle, &ended.handle);
-        if (turned == NASHIRUDDER_BOOK_SPENT) return code;
-        detail::check(turned);
-        if (keeper) keeper(std::move(ended));
+        if (code != NASHIRUDDER_CHAPTER_FULL || !rolls || number + 1 >= limits().chapters || !is_kept()) return code;
+        detail::check(nashirudder_next_chapter(&handle));
+        number++;
         return call();
+    }
+    /* Whether the keeper kept the full chapter. */
+    bool is_kept() {
+        if (!keeper) return true;
+        struct Busy {
+            explicit Busy(bool &flag) : flag(flag) { flag = true; }
+            ~Busy() { flag = false; }
+            bool &flag;
+        } busy(is_keeping);
+        auto keep = keeper;
+        return (*keep)(Chapter(handle));
+    }
+    void forbid_keeper() const {
+        if (is_keeping) NASHIRUDDER_THROW(std::logic_error("nashirudder: a keeper of chapters called its own fleet"));
+    }
+    /* The number of the present chapter, as its trace begins: {"chapter":N, */
+    std::uint64_t present_number() const {
+        static constexpr std::string_view before = "{\"chapter\":";
+        const std::string text = trace();
+        std::uint64_t found = 0;
+        for (char digit : std::string_view(text).substr(before.size())) {
+            if (digit < '0' || digit > '9') break;
+            found = found * 10 + static_cast<std::uint64_t>(digit - '0');
+        }
+        return found;
     }
     /* A list of errands, by a call that says how many places it needs. */
     template <typename Call> static std::vector<Errand> listed(Call call) {
@@ -532,8 +639,9 @@ private:
 
     nashirudder_fleet handle = NASHIRUDDER_CLOSED;
     std::size_t count = 0;
-    bool rolls = false;
-    std::function<void(Chapter)> keeper;
+    std::uint64_t number = 0; // of the present chapter
+    bool rolls = false, is_keeping = false;
+    std::shared_ptr<std::function<bool(const Chapter &)>> keeper;
 };
 
 /* A map that is read once, for any number of questions. Any number of threads may ask at once. */
@@ -558,19 +666,19 @@ public:
 
     [[nodiscard]] Shape shape() const {
         Shape shape{};
-        detail::check(nashirudder_map_shape(&handle, &shape));
+        detail::check(nashirudder_map_shape(detail::Seen{handle}, &shape));
         return shape;
     }
     /* Whether both cells are floor, and a walk joins them. */
     [[nodiscard]] bool joins(std::uint32_t a, std::uint32_t b) const {
         bool joins = false;
-        detail::check(nashirudder_map_joins(&handle, a, b, &joins));
+        detail::check(nashirudder_map_joins(detail::Seen{handle}, a, b, &joins));
         return joins;
     }
     /* Nothing where the step is free of conflicts, else its first fault. */
     [[nodiscard]] std::optional<Fault> check_step(Span<const std::uint32_t> from, Span<const std::uint32_t> to) const {
         Fault fault{};
-        nashirudder_code code = nashirudder_map_check_step(&handle, from.data(), from.size(), to.data(), to.size(), &fault);
+        nashirudder_code code = nashirudder_map_check_step(detail::Seen{handle}, from.data(), from.size(), to.data(), to.size(), &fault);
         if (code == NASHIRUDDER_NO_MEMORY) NASHIRUDDER_THROW(std::bad_alloc());
         if (code == NASHIRUDDER_NOT_OPEN) NASHIRUDDER_THROW(Refused(code));
         if (code == NASHIRUDDER_DONE) return std::nullopt;
@@ -579,13 +687,13 @@ public:
     /* The first bridge, or nothing where there is none. */
     [[nodiscard]] std::optional<Edge> first_bridge() const {
         Edge edge{};
-        if (!detail::is_there(nashirudder_map_first_bridge(&handle, &edge), NASHIRUDDER_NO_BRIDGE)) return std::nullopt;
+        if (!detail::is_there(nashirudder_map_first_bridge(detail::Seen{handle}, &edge), NASHIRUDDER_NO_BRIDGE)) return std::nullopt;
         return edge;
     }
     /* The length of a shortest walk from each cell to the goal, NASHIRUDDER_FAR where there is none; into a list that has one
        place a cell. */
     void distances(std::uint32_t goal, Span<std::uint32_t> told) const {
-        detail::check(nashirudder_map_distances(&handle, goal, told.data(), told.size()));
+        detail::check(nashirudder_map_distances(detail::Seen{handle}, goal, told.data(), told.size()));
     }
     [[nodiscard]] std::vector<std::uint32_t> distances(std::uint32_t goal) const {
         std::vector<std::uint32_t> told(shape().cells);

@@ -379,6 +379,84 @@ static void chapters() {
     CHECK(fleet.pending_count(0) == 2);
 }
 
+/* A keeper that fails leaves fleet and chapter as they were, and the call is refused; the chapter is shown again. */
+static void keeper_fails() {
+    Setup setup = endless_setup(1);
+    setup.chapters = 3;
+    setup.chapter = 2;
+    Fleet fleet(RING, {{.cell = 0, .ranks = {}}}, setup);
+    std::vector<std::string> kept;
+    int shown = 0;
+    fleet.roll([&](const Chapter &chapter) {
+        if (++shown == 1) return false;
+        if (shown == 2) throw std::runtime_error("disk full");
+        kept.push_back(chapter.trace());
+        return true;
+    });
+    fleet.tick();
+    fleet.tick();
+    const std::string full = fleet.trace();
+    CHECK(is(refusal_of([&] { fleet.tick(); }), NASHIRUDDER_CHAPTER_FULL) && shown == 1);
+    CHECK(fleet.trace() == full && fleet.clock() == 2 && kept.empty());
+    bool thrown = false;
+    try {
+        fleet.tick();
+    } catch (const std::runtime_error &error) {
+        thrown = std::string(error.what()) == "disk full";
+    }
+    CHECK(thrown && shown == 2 && fleet.trace() == full && fleet.clock() == 2 && kept.empty());
+    CHECK(fleet.tick().tick == 3 && shown == 3 && kept == std::vector<std::string>{full});
+    // The third chapter is the last: it is full, and its keeper is not asked.
+    fleet.tick();
+    fleet.tick();
+    fleet.tick();
+    CHECK(shown == 4 && is(refusal_of([&] { fleet.tick(); }), NASHIRUDDER_CHAPTER_FULL) && shown == 4 && fleet.clock() == 6);
+
+    // So it is of a fleet that goes on from its second chapter, which has the number 1.
+    Fleet goes_on = Fleet::reopen(RING, kept[0], std::vector<Robot>{{0, {}}}, setup);
+    int asked = 0;
+    goes_on.roll([&](const Chapter &) { asked++; });
+    for (int tick = 0; tick < 4; tick++) goes_on.tick();
+    CHECK(asked == 1 && is(refusal_of([&] { goes_on.tick(); }), NASHIRUDDER_CHAPTER_FULL) && asked == 1 && goes_on.clock() == 6);
+}
+
+/* A keeper that calls its own fleet is told so, and nothing is lost. */
+static void keeper_calls_its_fleet() {
+    Setup setup = endless_setup(1);
+    setup.chapter = 1;
+    Fleet fleet(RING, {{.cell = 0, .ranks = {}}}, setup);
+    int refused = 0;
+    auto is_refused = [&](auto call) {
+        try {
+            call();
+        } catch (const std::logic_error &) {
+            refused++;
+        }
+    };
+    fleet.roll([&](const Chapter &chapter) {
+        CHECK(fleet.trace() == chapter.trace() && fleet.clock() == 1);
+        is_refused([&] { fleet.tick(); });
+        is_refused([&] { fleet.next_chapter(); });
+        is_refused([&] { (void)fleet.hand_out(); });
+        is_refused([&] { fleet.roll(); });
+        is_refused([&] { (void)fleet.go(0, 0, 1); });
+    });
+    fleet.tick();
+    CHECK(fleet.tick().tick == 2 && refused == 5);
+}
+
+/* Numbers of the structs are compared with names, and structs with one another. */
+static void compared() {
+    Fleet fleet(RING, {{.cell = 0, .ranks = {}}});
+    const Judgement judged = fleet.go(0, 0, 8), other = fleet.go(0, 0, 5);
+    CHECK(judged.verdict == Verdict::accepted && Verdict::blocked == other.verdict && judged.verdict != Verdict::blocked);
+    CHECK(judged == judged && judged != other && fleet.standings()[0].state == State::busy);
+    CHECK(fleet.limits() == default_setup() && fleet.limits() != endless_setup());
+    CHECK(refusal_of([&] { (void)fleet.go(7, 0, 0); }).code == Code::no_client);
+    Fleet moved = std::move(fleet);
+    CHECK(fleet.robots() == 0 && moved.robots() == 1);
+}
+
 /* Chapters that are handed out, and those that roll by themselves. */
 static void handed_out() {
     Setup setup = endless_setup(1);
@@ -402,7 +480,7 @@ static void handed_out() {
     CHECK(moved.trace() == wanted && is(refusal_of([&] { (void)first.trace(); }), NASHIRUDDER_NOT_OPEN));
 
     std::vector<std::string> kept;
-    fleet.roll([&](Chapter chapter) { kept.push_back(chapter.trace()); });
+    fleet.roll([&](const Chapter &chapter) { kept.push_back(chapter.trace()); });
     fleet.tick();
     const std::string second = fleet.trace();
     fleet.tick();
@@ -728,6 +806,9 @@ int main(int count, char **) {
     bounds();
     chapters();
     handed_out();
+    keeper_fails();
+    keeper_calls_its_fleet();
+    compared();
     judges();
     reopenings();
     limits();

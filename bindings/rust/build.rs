@@ -48,6 +48,10 @@ fn main() {
     for name in ["NASHIRUDDER_DIR", "PKG_CONFIG", "PKG_CONFIG_PATH"] {
         println!("cargo:rerun-if-env-changed={name}");
     }
+    // docs.rs has no library, and the documentation needs none.
+    if env::var_os("DOCS_RS").is_some() {
+        return;
+    }
     let is_shared = env::var_os("CARGO_FEATURE_SHARED").is_some();
     let (file, kind) = if is_shared {
         ("libnashirudder.so", "dylib")

@@ -121,9 +121,9 @@ class Chromium:
             raise Failure(f'{script}: {answer["exceptionDetails"]}')
         return answer['result'].get('value')
 
-    def key(self, name, code=None, shift=False):
+    def key(self, name, code=None, shift=False, modifiers=0):
         number = CODES.get(name, ord(name.upper()) if len(name) == 1 else 0)
-        press = {'key': name, 'code': code or name, 'modifiers': 8 if shift else 0, 'windowsVirtualKeyCode': number}
+        press = {'key': name, 'code': code or name, 'modifiers': modifiers | (8 if shift else 0), 'windowsVirtualKeyCode': number}
         if len(name) == 1:
             press['text'] = name
         self.send('Input.dispatchKeyEvent', type='keyDown', **press)
@@ -157,6 +157,10 @@ class Chromium:
     def fingers(self, kind, *places):
         points = [{'x': x, 'y': y, 'id': number} for number, (x, y) in enumerate(places)]
         self.send('Input.dispatchTouchEvent', type=kind, touchPoints=points)
+
+    def tap(self, x, y):
+        self.fingers('touchStart', (x, y))
+        self.fingers('touchEnd')
 
     def swipe(self, start, end):
         self.fingers('touchStart', start)

@@ -1,6 +1,9 @@
 """What a page must do when its controls are used with real clicks, keys and fingers, beyond showing the right tick."""
 import time
 
+# the window of a laptop of 1366 by 768, less the browser's own bars
+LAPTOP = (1366, 638)
+ALT, CONTROL, COMMAND = 1, 2, 4
 BOX = ('(() => { const box = document.getElementById("map").getBoundingClientRect(); '
        'return [box.left, box.top, box.width, box.height]; })()')
 
@@ -40,6 +43,8 @@ class Controls:
         self.address_follows()
         self.map_stays()
         self.charts_seek()
+        self.pick_by_other_keyboards()
+        self.fits_a_laptop()
 
     def click_then_keys(self, selector):
         """After a click on any control the space bar plays, and arrow keys step."""
@@ -206,6 +211,43 @@ class Controls:
         browser.key('0')
         browser.size(1440, 1000)
 
+    def pick_by_other_keyboards(self):
+        """Where [ and ] are typed with AltGr or Option, they pick a robot; with the command key they are the browser's."""
+        browser = self.browser
+        for modifiers, picks in ((ALT, True), (ALT | CONTROL, True), (COMMAND, False)):
+            browser.key('Escape')
+            browser.key(']', modifiers=modifiers)
+            self.expect('robot', '0' if picks else 'none', f'the key ] with modifiers {modifiers}')
+        browser.key('Escape')
+
+    def fits_a_laptop(self):
+        """On a laptop's window what is told, the legend and the slider are to be seen, and a pick by key or click does not scroll the window."""
+        browser = self.browser
+        browser.size(*LAPTOP)
+        wait(browser, 80)
+        browser.run('window.scrollTo(0, 0)')
+        robots = browser.run('page.replay.robots')
+        for name in ('#map', '#time', '#hover', '.robot', '.legend'):
+            top, bottom = browser.run(f'(() => {{ const box = document.querySelector("{name}").getBoundingClientRect(); return [box.top, box.bottom]; }})()')
+            self.expect_true(top >= 0 and bottom <= LAPTOP[1], f'{name} is in the window ({top:.0f} to {bottom:.0f})')
+        browser.key('Escape')
+        for _ in range(robots):
+            browser.key(']')
+            self.expect_true(browser.run('window.scrollY') == 0, 'a pick by key does not scroll the window')
+        self.expect('robot', str(robots - 1), 'the key ], once for each robot')
+        shown_row = ('(() => { const box = document.querySelector("#robots").closest(".scroll").getBoundingClientRect(); '
+                     'const row = document.querySelector("#robots tr.picked").getBoundingClientRect(); '
+                     'return row.top >= box.top - 1 && row.bottom <= box.bottom + 1; })()')
+        self.expect_true(browser.run(shown_row), 'the row of the picked robot is in its table')
+        left, top = browser.run(BOX)[:2]
+        x, y = browser.run('[page.view.xs[0] / page.view.ratio, page.view.ys[0] / page.view.ratio]')
+        browser.press(left + x, top + y)
+        self.expect('robot', '0', 'a click on a robot')
+        self.expect_true(browser.run('window.scrollY') == 0, 'a pick by click does not scroll the window')
+        self.expect_true(browser.run(shown_row), 'the row of the robot that was clicked is in its table')
+        browser.key('Escape')
+        browser.size(1440, 1000)
+
     def charts_seek(self):
         browser = self.browser
         browser.key('Home')
@@ -237,6 +279,14 @@ def touch(browser, fault):
     wait(browser, 80)
     if float(shown(browser, 'zoom')) != zoom:
         fault('the zoom stays if the height changes')
+    browser.key('0')
+    scale = browser.run('page.view.view.scale / page.view.ratio')
+    left, top = browser.run(BOX)[:2]
+    x, y = browser.run('[page.view.xs[0] / page.view.ratio, page.view.ys[0] / page.view.ratio]')
+    far = max(14, scale * 0.5)
+    browser.tap(left + x + (far if x < box[2] / 2 else -far), top + y)
+    if shown(browser, 'robot') != '0':
+        fault(f'a tap {far:.0f} pixels next to a robot picks it ({shown(browser, "robot")})')
     small = browser.run('[...document.querySelectorAll("button, select, label")].filter((one) => one.offsetParent !== null '
                         '&& !one.closest("#events") && one.getBoundingClientRect().height < 44).map((one) => one.id || one.textContent)')
     if small:

@@ -185,13 +185,16 @@ class Live:
         self.line_due = self.now + 60_000_000
 
     def try_to_keep(self):
-        """Keeps what waits, and says so where that fails."""
+        """Keeps what waits, and says so where that fails, and where it works again."""
+        waited, first = bool(self.sink.waiting), len(self.sink.kept)
         try:
             self.keep()
         finally:
             if self.sink.waiting:
-                self.say(None, f"fleet: file chapter-{len(self.sink.kept)}.json")
+                self.say(None, f"fleet: file chapter-{len(self.sink.kept)}.json cannot be written")
                 self.retry = self.now + 1_000_000
+            elif waited:
+                self.say(None, f"fleet: file chapter-{first}.json is written, and those after it")
 
     def pass_time(self, micros):
         """Moves the clock on, and makes the turn that is due. False where the fleet ends."""

@@ -209,27 +209,48 @@ def as_schedule(rng, places):
     return lines
 
 
+def schedule_wrong(lines):
+    """Returns the number of the first line of a schedule that may not stand where it does, one more than the last where the lines end too early, or None."""
+    begin = next((number for number, line in enumerate(lines, 1) if line.split()[:1] == ["schedule:"]), None)
+    if begin is None:
+        return len(lines) + 1
+    robot, time, before = -1, 0, "schedule"
+    for number, line in enumerate(lines[begin:], begin + 1):
+        words = line.split() + [""] * 3
+        if before in ("name", "time") and words[:2] == ["-", "x:"] and words[2].isdigit():
+            before = "column"
+        elif before == "column" and words[0] == "y:" and words[1].isdigit():
+            before = "row"
+        elif before == "row" and words[:2] == ["t:", str(time)]:
+            before, time = "time", time + 1
+        elif before in ("schedule", "time") and words[0] == f"agent{robot + 1}:":
+            before, robot, time = "name", robot + 1, 0
+        else:
+            return number
+    return None if before == "time" else len(lines) + 1
+
+
 def schedule_fault(rng, lines):
-    """Returns the lines of a schedule with a fault, and what is to be said."""
-    first = lines.index("schedule:") + 1
-    kind = rng.randrange(6)
-    if kind == 0:
-        return lines[: first - 1] or ["statistics:"], ("", 6, f"fleet: plan {max(first, 2)} cut\n")
-    if kind == 1:
-        return lines[:first], ("", 6, f"fleet: plan {first + 1} cut\n")
-    at = rng.randrange(first, len(lines))
-    while not (lines[at].startswith("      t:") if kind in (2, 3) else True):
-        at = rng.randrange(first, len(lines))
-    lines = list(lines)
-    if kind == 2:
-        lines[at] = f"      t: {int(lines[at].split()[1]) + 1}"
-    elif kind == 3:
-        lines[at - 1] = rng.choice(["      y: -1", "      y:", "      y: a"])
-    elif kind == 4:
-        lines[at] = rng.choice(["", "  robot0:", "  agent0", "    x: 3", "    - y: 3", "z: 1", "# agent0:"])
-    else:
-        lines.insert(at, "  cost: 3")
-    return lines, ("", 6, f"fleet: plan {at + 1}\n")
+    """Returns the lines of a schedule with a fault, or without their end, and what is to be said."""
+    odd = ["", "  robot0:", "  agent0", "  agent0:", "  agent1:", "    x: 3", "    - x:", "    - x: a", "    - y: 3", "      y: -1", "      y:", "      t: 7", "z: 1", "# agent0:", "  cost: 3"]
+    while True:
+        wrong = list(lines)
+        at = rng.randrange(len(wrong))
+        kind = rng.randrange(5)
+        if kind == 0:
+            wrong = wrong[:at]
+        elif kind == 1:
+            del wrong[at]
+        elif kind == 2:
+            wrong.insert(at, wrong[at])
+        elif kind == 3:
+            wrong.insert(rng.randrange(len(wrong)), wrong.pop(at))
+        else:
+            wrong[at] = rng.choice(odd)
+        number = schedule_wrong(wrong)
+        # (a text is known as YAML by its first line)
+        if number is not None and wrong and wrong[0] in ("statistics:", "schedule:"):
+            return wrong, ("", 6, f"fleet: plan {number}{' cut' if number > len(wrong) else ''}\n")
 
 
 def as_value(rng, places):

@@ -2,9 +2,12 @@
 # Refuses each allocation of `errands` in turn: tools/refused/run.sh --help
 set -euo pipefail
 here=$(cd "$(dirname "$0")" && pwd)
-if [ "${1:-}" = --help ]; then
+bin=$here/../../bin
+if [ $# -eq 2 ] && [ "$1" = --bin ]; then
+  bin=$2
+elif [ $# -ne 0 ]; then
   cat <<'HELP'
-usage: tools/refused/run.sh [ERRANDS]
+usage: tools/refused/run.sh [--bin DIR]
 
 Runs seven jobs of the program `errands` again and again. In run N the Nth allocation gives no memory: once alone, and once with all
 that come after it. Each run must end
@@ -13,17 +16,12 @@ that come after it. Each run must end
 - as the job otherwise does, where the refusal was made up for. A serve's trace depends on its schedule: it must be found legal.
 
 Ends with status 1 at the first run that does not. Prints for each job how many allocations were refused, how many of these runs ended
-out of memory, and how many refusals were made up for. ERRANDS is the path of the built program (`tools/install
---quick` makes bin/errands); without it `rt run` proves and builds it. Needs cc and a C library whose allocations can be replaced (LD_PRELOAD). A minute or two.
+out of memory, and how many refusals were made up for. The program is DIR/errands, or bin/errands
+(`tools/install --quick` makes it). Needs cc and a C library whose allocations can be replaced (LD_PRELOAD). A minute or two.
 HELP
-  exit 0
+  [ "$1" = --help ] && exit 0 || exit 2
 fi
-errands=${1:-}
-if [ -z "$errands" ]; then
-  (cd "$here/../../crates/errands" && rt run < stdin > /dev/null)
-  errands=$here/../../crates/errands/out/errands
-fi
-errands=$(realpath -e "$errands") ||
+errands=$(realpath -e "$bin/errands") ||
   { echo "tools/refused/run.sh: tools/install --quick makes bin/errands" >&2; exit 2; }
 room=$(mktemp -d)
 trap 'rm -r "$room"' EXIT

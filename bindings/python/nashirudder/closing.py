@@ -1,19 +1,38 @@
 """What is closed at the end of its `with` block."""
 
 import abc
+import sys
+import warnings
 from typing import Any, Optional, TypeVar
 
 from .errors import FleetError
+from .uncopied import Uncopied
 
 Self = TypeVar("Self", bound="Closing")
 
 
-class Closing(abc.ABC):
-    """`with` returns the fleet and closes it at the end of the block."""
+class Closing(Uncopied, abc.ABC):
+    """`with` returns the fleet and closes it at the end of the block. A fleet that is dropped unclosed is ended, with a
+    ResourceWarning; it is neither copied nor pickled.
+    """
 
     @abc.abstractmethod
     def close(self, timeout: Optional[float] = None) -> None:
         """Ends the fleet."""
+
+    @abc.abstractmethod
+    def _is_left_open(self) -> bool:
+        """Whether it was opened in this process, and not closed."""
+
+    @abc.abstractmethod
+    def _let_end(self) -> None:
+        """Has it ended, without waiting for that. Nobody has the fleet any more."""
+
+    def __del__(self) -> None:
+        if sys.is_finalizing() or not self._is_left_open():
+            return
+        warnings.warn(f"a {type(self).__name__} was dropped that was not closed", ResourceWarning, source=self)
+        self._let_end()
 
     def __enter__(self: Self) -> Self:
         return self

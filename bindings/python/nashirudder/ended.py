@@ -6,9 +6,10 @@ from typing import Any
 
 from .calls import CChapter
 from .texts import text_by
+from .uncopied import Uncopied
 
 
-class EndedChapter:
+class EndedChapter(Uncopied):
     """A chapter that a `Handle` handed out: its text can be made in another thread, while the fleet goes on.
 
     Any thread may call; calls are made one after the other. After `close` each call is refused with "not-open".
@@ -37,12 +38,3 @@ class EndedChapter:
 
     def __del__(self) -> None:
         self.close()
-
-    def __copy__(self) -> None:
-        raise TypeError("a chapter is not copied")
-
-    def __deepcopy__(self, _memo: object) -> None:
-        raise TypeError("a chapter is not copied")
-
-    def __reduce__(self) -> Any:
-        raise TypeError("a chapter is not copied")

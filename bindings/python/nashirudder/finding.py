@@ -23,7 +23,7 @@ Place = Union[str, "os.PathLike[str]"]
 VARIABLE = "NASHIRUDDER_DIR"
 PROGRAM = ("fleet",)
 # The number after .so is that of the binary interface, which this package is written for
-SONAME = "libnashirudder.so.0"
+SONAME = "libnashirudder.so.0.1"
 LIBRARY = (SONAME, "libnashirudder.so")
 
 _TO_GET_PROGRAM = "`tools/install --quick fleet` in a clone of Nashirudder builds it as bin/fleet, in some minutes"

@@ -18,6 +18,8 @@ if TYPE_CHECKING:
 T = TypeVar("T")
 
 MOST_TICKS = 1_000_000
+# How many ticks a program is asked for at once: after these an interrupted call stops.
+TICKS_AT_ONCE = 1_000
 
 
 class AnyFleet(Closing):
@@ -25,7 +27,8 @@ class AnyFleet(Closing):
     in this process.
 
     Any thread may call any method: calls are made one after the other. A call that is left by an exception, as Ctrl-C
-    raises it, is made all the same. Numbers that are passed are whole ones from 0 to 2^32 - 1, or the call raises
+    raises it, is made all the same; but `tick` stops between two ticks, over pipes within 1,000. In a process that was forked
+    after the fleet was opened each call raises Ended, but `close`, which does nothing there. Numbers that are passed are whole ones from 0 to 2^32 - 1, or the call raises
     OutOfRange and does nothing. Each call raises Late if it takes longer than the fleet's `timeout`, Ended once the
     fleet is closed or its program ended, FileFailed if a full chapter cannot be written to `traces`, and NoMemory.
     """
@@ -121,7 +124,7 @@ class AnyFleet(Closing):
         """Asks a robot to come to a cell, after the errands that it has. Returns the errand; its verdict is what
         `accepted` of it says.
 
-        Raises Refused with "lane-full" if the client has as many orders that are not judged as its `lane` holds (64),
+        Raises Refused with "lane-full" if the client has as many orders that are not judged as its `lane` holds (64, or more: see the class),
         or with "no-client"; then nothing was posted. A robot or cell that there is not is no refusal of this call, but
         of the order.
         """

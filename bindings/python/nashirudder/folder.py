@@ -2,12 +2,14 @@
 (docs/PROTOCOL.md).
 """
 
+import errno
 import fcntl
 import os
 import pathlib
 import re
+import stat
 from dataclasses import dataclass
-from typing import Optional, Set
+from typing import IO, Optional, Set
 
 from .errors import FileFailed
 
@@ -37,17 +39,9 @@ class ChapterFolder:
         missing between two others, or the last one cannot be read.
         """
         self._path = pathlib.Path(path).absolute()
-        self._lock_name = self._path / "fleet.lock"
+        self._lock = self._locked(path)
         try:
-            self._lock = open(self._lock_name, "w")
-        except OSError as error:
-            raise FileFailed(f"the folder {path} cannot be written: {error}") from error
-        try:
-            fcntl.flock(self._lock, fcntl.LOCK_EX | fcntl.LOCK_NB)
-        except OSError as error:
-            self._lock.close()
-            raise FileFailed(f"the folder {path} is in use by another fleet") from error
-        try:
+            self._try(path)
             if resume:
                 self.last = self._last()
             else:
@@ -55,8 +49,40 @@ class ChapterFolder:
         except FileFailed:
             self.let_go()
             raise
-        self._lock.write("a fleet keeps its chapters here\n")
-        self._lock.flush()
+
+    def _locked(self, path: str) -> IO[str]:
+        """The file of the lock, which is never removed, so that all programs lock the same one."""
+        name = self._path / "fleet.lock"
+        try:
+            for _ in range(16):
+                if os.path.lexists(name) and not stat.S_ISREG(os.lstat(name).st_mode):
+                    raise FileFailed(f"the folder {path} cannot be written: fleet.lock is no file")
+                lock = open(name, "a")
+                try:
+                    fcntl.flock(lock, fcntl.LOCK_EX | fcntl.LOCK_NB)
+                except OSError:
+                    lock.close()
+                    break
+                if os.path.exists(name) and os.path.samestat(os.fstat(lock.fileno()), os.stat(name)):
+                    return lock
+                lock.close()
+        except OSError as error:
+            raise FileFailed(f"the folder {path} cannot be written: {error}") from error
+        raise FileFailed(f"the folder {path} is in use by another fleet")
+
+    def _try(self, path: str) -> None:
+        """Writes a file into the folder, down to the disk, and removes it."""
+        trial = self._path / "fleet.part"
+        try:
+            with open(trial, "w") as file:
+                file.write("\n" * 4096)
+                file.flush()
+                os.fsync(file.fileno())
+            trial.unlink()
+        except OSError as error:
+            if trial.exists():
+                trial.unlink()
+            raise FileFailed(f"the folder {path} cannot be written: {error}") from error
 
     def _need_none(self, path: str) -> None:
         if any(self._path.glob("chapter-*.json")):
@@ -84,6 +110,8 @@ class ChapterFolder:
             absent = self._path / f"chapter-{missing}.json"
             raise FileFailed(f"the fleet does not go on: {absent}: it is missing, and a later chapter is there")
         try:
+            if not stat.S_ISREG(file.lstat().st_mode):
+                raise OSError("it is a pipe, a link or a folder")
             if file.stat().st_size > _MOST_BYTES:
                 raise OSError("it has more than 1,073,741,824 bytes")
             return KeptChapter(number, str(file), file.read_bytes())
@@ -106,10 +134,27 @@ class ChapterFolder:
     def keep(self, number: int) -> None:
         """Puts the chapter that was written into its place, whole."""
         try:
-            os.replace(self._part(number), self._path / f"chapter-{number}.json")
+            self._place(self._part(number), self._path / f"chapter-{number}.json")
+            folder = os.open(self._path, os.O_RDONLY)
+            try:
+                os.fsync(folder)
+            finally:
+                os.close(folder)
         except OSError as error:
             self.drop(number)
             raise FileFailed(f"the chapter chapter-{number}.json in {self._path} cannot be written: {error}") from error
+
+    @staticmethod
+    def _place(part: pathlib.Path, name: pathlib.Path) -> None:
+        """Gives a file this name, which nothing has yet."""
+        try:
+            os.link(part, name)
+        except OSError as error:
+            if error.errno not in (errno.EPERM, errno.EOPNOTSUPP, errno.ENOSYS) or os.path.lexists(name):
+                raise
+            os.rename(part, name)
+        else:
+            part.unlink()
 
     def drop(self, number: int) -> None:
         """Removes a chapter that was written and has no place."""
@@ -124,9 +169,4 @@ class ChapterFolder:
 
     def let_go(self) -> None:
         """Lets other fleets have the folder."""
-        try:
-            self._lock_name.unlink()
-        except OSError:
-            # Whoever removed it has let go for us.
-            pass
         self._lock.close()

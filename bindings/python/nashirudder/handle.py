@@ -16,6 +16,7 @@ from .names import Code
 from .ranges import checked_limits, long_number, whole_number
 from .records import Arrival
 from .told import Judgement, Notice, Report, Taken, TickRecord, judgement_of, notice_of
+from .uncopied import Uncopied
 from .views import Views
 
 Text = Union[str, bytes]
@@ -47,7 +48,7 @@ def _robots_in(text: bytes) -> int:
 H = TypeVar("H", bound="Handle")
 
 
-class Handle(Views):
+class Handle(Uncopied, Views):
     """Robots on a map, and clients that send them to cells: the calls of nashirudder.h, of which that page says more.
 
     `map` is the text of a .map file, not its path. `robots` has each robot's start cell, 1 to 512 of them, or a pair of
@@ -124,15 +125,6 @@ class Handle(Views):
     def __del__(self) -> None:
         if getattr(self, "_fleet", None) is not None:
             self.close()
-
-    def __copy__(self) -> None:
-        raise TypeError("a fleet is not copied")
-
-    def __deepcopy__(self, _memo: object) -> None:
-        raise TypeError("a fleet is not copied")
-
-    def __reduce__(self) -> Any:
-        raise TypeError("a fleet is not copied")
 
     # ---- orders
 

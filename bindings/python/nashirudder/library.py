@@ -8,6 +8,7 @@ is one about a map and a chapter.
 `nashirudder.finding` says where the library is looked for.
 """
 
+import os
 from collections import deque
 from typing import Callable, Deque, Dict, List, Optional, Sequence, TypeVar
 
@@ -15,7 +16,7 @@ from . import opening
 from .asked import CloseClient, Go, Withdraw
 from .calls import FAR, is_proved
 from .ended import EndedChapter
-from .errors import Ended, FileFailed, NoMemory, OutOfRange, OrderRefused, Refused, refusal
+from .errors import Ended, FileFailed, FleetError, NoMemory, OutOfRange, OrderRefused, Refused, refusal
 from .finding import Place
 from .fleet import AnyFleet
 from .folder import ChapterFolder
@@ -174,6 +175,8 @@ class Fleet(AnyFleet):
 
     def _make_ticks(self, count: int) -> None:
         for _ in range(count):
+            if self._turns.is_left:
+                return
             did = self._entered(self._handle.tick_record)
             self._cells = [int(cell) for cell in did.cells]
             self._farewells += [Farewell(robot, 0) for robot in did.farewells]
@@ -239,6 +242,16 @@ class Fleet(AnyFleet):
             if self._folder is not None:
                 self._folder.let_go()
 
+    def _is_left_open(self) -> bool:
+        return hasattr(self, "_handle") and not self._is_closed and self._turns.opened_in == os.getpid()
+
+    def _let_end(self) -> None:
+        try:
+            self._end()
+        except FleetError:
+            # Nobody is there to be told.
+            pass
+
     def close(self, timeout: Optional[float] = None) -> None:
-        if not self._is_closed:
+        if not self._is_closed and self._turns.opened_in == os.getpid():
             self._turns.make(self._end, self._timeout if timeout is None else timeout)

@@ -1,6 +1,8 @@
 """A fleet that moves by itself: the program `fleet live` keeps it."""
 
+import os
 import tempfile
+import weakref
 from typing import TYPE_CHECKING, Dict, List, Optional, Sequence, Tuple
 
 from . import finding, opening
@@ -9,7 +11,7 @@ from .caller import Caller, OnTick
 from .closing import Closing
 from .errors import OutOfRange, Refused, Waiting, refusal
 from .finding import Place
-from .fleet import MOST_TICKS
+from .fleet import MOST_TICKS, TICKS_AT_ONCE
 from .names import Verdict, verdict_in
 from .orders import AnyErrand, Ledger, Order, need_own
 from .process import Asked, Program, chapter_in, errands_in, look_in, silently
@@ -64,6 +66,11 @@ class LiveErrand(AnyErrand):
         return arrival
 
 
+def _is_over(fleet: "Optional[LiveFleet]") -> bool:
+    """Whether there is no fleet any more that its ticks could be told."""
+    return fleet is None or fleet._program.is_closed
+
+
 class LiveFleet(Closing):
     """A fleet that moves by itself, a turn every `period_ms` milliseconds; without it, a turn for each `tick`. `fleet
     live` keeps it.
@@ -110,7 +117,9 @@ class LiveFleet(Closing):
         self._ledger = Ledger()
         self._is_on_demand = period_ms is None
         self._arrivals: List[Arrival] = []
-        self._caller = None if on_tick is None else Caller(on_tick, lambda: self._program.is_closed)
+        # The thread in which it is called does not keep the fleet alive.
+        fleet = weakref.ref(self)
+        self._caller = None if on_tick is None else Caller(on_tick, lambda: _is_over(fleet()))
         self._head = tempfile.NamedTemporaryFile("w", suffix=".script")
         self._head.write("".join(line + "\n" for line in told.head()))
         self._head.flush()
@@ -227,7 +236,10 @@ class LiveFleet(Closing):
         count = whole_number("the number of ticks", count, least=1, most=MOST_TICKS)
         if self._is_on_demand:
             self._arrivals = []
-        return self._program.reply(f"tick {count}", _cells_in)
+        cells: List[int] = []
+        for made in range(0, count, TICKS_AT_ONCE):
+            cells = self._program.reply(f"tick {min(TICKS_AT_ONCE, count - made)}", _cells_in)
+        return cells
 
     @property
     def arrivals(self) -> List[Arrival]:
@@ -271,6 +283,14 @@ class LiveFleet(Closing):
         others).
         """
         return self._program.status
+
+    def _is_left_open(self) -> bool:
+        program = getattr(self, "_program", None)
+        return program is not None and not program.is_closed and program.opened_in == os.getpid()
+
+    def _let_end(self) -> None:
+        self._program.drop()
+        self._let_go(0)
 
     def _let_go(self, timeout: Optional[float]) -> None:
         self._head.close()

@@ -11,12 +11,13 @@ from .finding import Place
 from .handle import Text, text_of
 from .names import Code
 from .ranges import whole_number
+from .uncopied import Uncopied
 
 if TYPE_CHECKING:
     from .arrays import Cells
 
 
-class Map:
+class Map(Uncopied):
     """A map, read once: the functions of this package that take a map's text read it at each call.
 
     `text` is the text of a .map file, not its path. Raises Refused with the map's first fault ("map-header",
@@ -56,15 +57,6 @@ class Map:
     def __del__(self) -> None:
         if getattr(self, "_map", None) is not None:
             self.close()
-
-    def __copy__(self) -> None:
-        raise TypeError("a map is not copied")
-
-    def __deepcopy__(self, _memo: object) -> None:
-        raise TypeError("a map is not copied")
-
-    def __reduce__(self) -> Any:
-        raise TypeError("a map is not copied")
 
     def joins(self, one: int, other: int) -> bool:
         """Whether both cells are floor, and a walk joins them. Cells are any numbers from 0 to 2^32 - 1."""

@@ -17,6 +17,18 @@ _MOST_SIDE = 1024
 ENDLESS = {"life": 2**40, "orders": 2**62, "clock": 2**48, "chapters": 2**32 - 1}
 
 
+# How many robots one client keeps busy with the limits of small fleets
+_FEW_ROBOTS = 31
+_MOST_PLACES = 65_536
+
+
+def fitting(robots: int) -> Dict[str, int]:
+    """The limits, if none are given, with which one client can send an errand to each robot and another after it."""
+    if robots <= _FEW_ROBOTS:
+        return {}
+    return dict.fromkeys(("mailbox", "lane", "outlet"), min(2 * robots + 2, _MOST_PLACES))
+
+
 def sides_of(text: bytes) -> Tuple[int, int]:
     """The height and width that the head of a map's text says; zeros if the head is at fault."""
     form, head = rb"^%s[ \t]+0*(\d{1,4})[ \t]*\r?$", b"\n".join(text.split(b"\n", 4)[:4])
@@ -118,7 +130,7 @@ def checked(
         raise OutOfRange(f"this is no name of a folder for traces: {folder!r}")
     cells = [whole_number("a start cell", cell) for cell in robots]
     number = whole_number("clients", clients)
-    told = Opening(os.fsdecode(map), cells, number, ties, folder, checked_limits(limits))
+    told = Opening(os.fsdecode(map), cells, number, ties, folder, {**fitting(len(cells)), **checked_limits(limits)})
     if not 1 <= len(cells) <= MOST_ROBOTS:
         raise refusal("robot-count", (0, 0))
     need_file(map)

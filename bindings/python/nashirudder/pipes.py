@@ -1,12 +1,13 @@
 """A fleet that the program `fleet talk` keeps, spoken to over two pipes."""
 
+import os
 from collections import deque
 from typing import Deque, Dict, List, Optional, Sequence, Set
 
 from . import finding, opening
 from .errors import Refused, refusal
 from .finding import Place
-from .fleet import AnyFleet
+from .fleet import TICKS_AT_ONCE, AnyFleet
 from .names import Verdict, verdict_in
 from .orders import Order
 from .process import Asked, Program, chapter_in, errands_in, head_file, look_in, silently
@@ -20,8 +21,9 @@ class Fleet(AnyFleet):
 
     `map` is the path of a .map file. `robots` are the start cells of robots 0, 1, ..: 1 to 512, cells counted row by
     row from 0. `clients` is 1 to 64. `ties` is "plain" or "south" (docs/SCRIPT.md); "south" is for this class alone.
-    The limits are those of a script's head, by name: `queue` (16 errands of a robot), `mailbox` (64 notices and
-    unfinished errands of a client), `lane` (64 orders of a client that are not judged), `chapter` (65,536 entries);
+    The limits are those of a script's head, by name: `queue` (16 errands of a robot), `mailbox` (notices and
+    unfinished errands of a client) and `lane` (orders of a client that are not judged), each 64, or with more than 31
+    robots 2 for each robot and 2 more, and `chapter` (65,536 entries);
     `life`, `orders`, `clock` and `chapters` are so great that no fleet meets them.
 
     With `traces` each chapter is written into that folder as chapter-N.json when it is handed out, and the last one
@@ -147,10 +149,13 @@ class Fleet(AnyFleet):
         return sorted(client for client, lane in list(self._lanes.items()) if lane)
 
     def _make_ticks(self, count: int) -> None:
-        answer = self._program.ask(f"tick {count}")[0]
-        for client in sorted({arrival.client for arrival in self._arrivals}):
-            self._collect(client)
-        self._raise_refusal(answer, "tick-refused")
+        while count > 0 and not self._turns.is_left:
+            part = min(count, TICKS_AT_ONCE)
+            answer = self._program.ask(f"tick {part}")[0]
+            for client in sorted({arrival.client for arrival in self._arrivals}):
+                self._collect(client)
+            self._raise_refusal(answer, "tick-refused")
+            count -= part
 
     def _make_shut(self, robot: int) -> None:
         self._raise_refusal(self._program.ask(f"shut {robot}")[0], "shut-refused")
@@ -191,6 +196,13 @@ class Fleet(AnyFleet):
 
     def _turn_page(self) -> Chapter:
         return self._program.reply("chapter", chapter_in)
+
+    def _is_left_open(self) -> bool:
+        program = getattr(self, "_program", None)
+        return program is not None and not program.is_closed and program.opened_in == os.getpid()
+
+    def _let_end(self) -> None:
+        self._program.drop()
 
     def close(self, timeout: Optional[float] = None) -> None:
         self._program.close(self._timeout if timeout is None else timeout)

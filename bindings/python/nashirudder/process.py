@@ -1,16 +1,19 @@
 """The program `fleet`, spoken to over two pipes: what `Fleet` and `LiveFleet` share."""
 
 import contextlib
+import os
 import queue
 import subprocess
 import tempfile
 import threading
 import time
+import weakref
 from typing import IO, Any, Callable, Iterator, List, Optional, Sequence, TypeVar, cast
 
 from .errors import Ended, FileFailed, FleetError, Late, Missing, NoMemory, refusal
 from .orders import Order
 from .records import Chapter, Look, OpenErrand
+from .turns import need_own_process
 
 T = TypeVar("T")
 
@@ -77,7 +80,8 @@ class Program:
     """The program, and the lines that it is asked and answers.
 
     A thread writes, and another reads and takes in what is said. Python's signal handlers run in the main thread alone,
-    so no exception of theirs can leave half a line written, or an answer half read.
+    so no exception of theirs can leave half a line written, or an answer half read. The threads do not keep the fleet alive
+    whose methods `noted` and `hear` are.
     """
 
     def __init__(
@@ -91,12 +95,14 @@ class Program:
         self.timeout = timeout
         self.status: Optional[int] = None
         self.is_closed = False
+        self.opened_in = os.getpid()
+        self._is_dropped = False
         # Held while what was asked and heard changes, or is looked at
         self._lock = threading.RLock()
         # A queue for each caller that waits. An exception of a signal handler may leave a threading.Condition with a lock
         # that is not held.
         self._waiting: List["queue.SimpleQueue[None]"] = []
-        self._noted, self._hear = noted, hear
+        self._noted, self._hear = weakref.WeakMethod(noted), weakref.WeakMethod(hear)
         self._is_over = False
         self._misheard: Optional[str] = None
         self._complaints = tempfile.TemporaryFile()
@@ -123,10 +129,14 @@ class Program:
             asked = self._outbox.get()
             try:
                 if asked is None:
+                    # A process that was forked may hold the pipe open: so the end of the input alone would not do.
+                    stdin.write(b"quit\n")
                     stdin.close()
                     return
                 with self._lock:
-                    text = self._noted(asked)
+                    noted = self._noted()
+                    text = "" if noted is None else noted(asked)
+                    del noted
                 stdin.write(text.encode())
                 stdin.flush()
             except (OSError, ValueError):
@@ -143,7 +153,10 @@ class Program:
                 if not line.endswith(b"\n"):
                     break
                 with self._lock:
-                    self._hear(line.decode().split())
+                    hear = self._hear()
+                    if hear is not None:
+                        hear(line.decode().split())
+                    del hear
                     self._wake()
         except (ValueError, LookupError):
             # Another program, or one of another version.
@@ -153,6 +166,23 @@ class Program:
             with self._lock:
                 self._is_over = True
                 self._wake()
+                is_dropped = self._is_dropped
+            if is_dropped:
+                self._bury()
+
+    def _bury(self) -> None:
+        """Frees what is left of a program that nobody waits for."""
+        self.process.wait()
+        cast(IO[bytes], self.process.stdout).close()
+        self._complaints.close()
+
+    def drop(self) -> None:
+        """Lets the program end, and does not wait for that."""
+        with self._lock:
+            is_over, self._is_dropped, self.is_closed = self._is_over, True, True
+        self._outbox.put(None)
+        if is_over:
+            self._bury()
 
     def _wake(self) -> None:
         """Lets those who wait look again."""
@@ -189,6 +219,7 @@ class Program:
 
     def ask(self, *commands: str, order: Optional[Order] = None) -> List[List[List[str]]]:
         """Sends commands, and returns for each the lines of its answer, as words."""
+        need_own_process(self.opened_in)
         if self.is_closed:
             raise Ended(self.status, "the fleet is closed")
         asked = Asked(commands, order)
@@ -212,7 +243,9 @@ class Program:
         if self._misheard is not None:
             return self._misheard
         self._complaints.seek(0)
-        return self._complaints.read().decode(errors="replace").strip()
+        said = self._complaints.read().decode(errors="replace").strip()
+        # How a fleet starts is no complaint.
+        return "\n".join(line for line in said.split("\n") if not line.startswith(("fleet: begins anew", "fleet: goes on from ")))
 
     def _ended(self) -> FleetError:
         """What there is to raise if the program ended."""
@@ -247,7 +280,7 @@ class Program:
     def close(self, timeout: Optional[float]) -> None:
         """Ends the program, if it was not ended before. Raises Late, and what it ended with if that is neither 0 nor 8.
         """
-        if self.is_closed:
+        if self.is_closed or os.getpid() != self.opened_in:
             return
         complaint = self.end(timeout)
         if self.status not in (0, 8):

@@ -14,15 +14,15 @@ fn main() -> Result<(), Refused> {
         println!("tick {}: {}", report.tick, fleet.placement()?[0]);
     }
     let mut notices = Vec::new();
-    while let Some(notice) = fleet.give(0)? {
+    for notice in fleet.notices(0) {
+        let notice = notice?;
         if let Notice::Arrived { number, robot, cell, stamp, .. } = notice {
             println!("arrived robot {robot} client 0 number {number} cell {cell} stamp {stamp}");
         }
         notices.push(notice);
     }
     for notice in &notices {
-        let (Notice::Verdict { seq, .. } | Notice::Arrived { seq, .. }) = notice;
-        println!("gave 0 {seq}");
+        println!("gave 0 {}", notice.seq());
     }
     for notice in notices {
         match notice {
@@ -35,6 +35,7 @@ fn main() -> Result<(), Refused> {
             Notice::Arrived { seq, number, robot, cell, tick, stamp } => {
                 println!("collected 0 {seq} arrived {number} robot {robot} cell {cell} tick {tick} stamp {stamp}");
             }
+            other => println!("collected 0 {}: {other:?}", other.seq()),
         }
     }
     Ok(())

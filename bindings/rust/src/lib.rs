@@ -25,7 +25,6 @@ use std::fmt;
 
 const DONE: u32 = 0;
 const CHAPTER_FULL: u32 = 7;
-const BOOK_SPENT: u32 = 10;
 const NOT_OPEN: u32 = 2;
 const NO_NOTICE: u32 = 11;
 const IDLE: u32 = 13;
@@ -362,7 +361,7 @@ fn check_version() -> Result<(), Refused> {
 }
 
 /// The number of clients and the limits of a fleet.
-#[derive(Clone, Copy, Debug, Default, PartialEq, Eq)]
+#[derive(Clone, Copy, Debug, PartialEq, Eq, Hash)]
 pub struct Setup {
     pub life: u64,
     pub orders: u64,
@@ -374,6 +373,13 @@ pub struct Setup {
     pub mailbox: u32,
     pub chapter: u32,
     pub chapters: u32,
+}
+
+/// One client, and the limits that are taken where nothing is said.
+impl Default for Setup {
+    fn default() -> Setup {
+        Setup::new(1)
+    }
 }
 
 impl Setup {
@@ -442,7 +448,8 @@ impl Robot {
 
 /// What an order is answered.
 #[must_use = "an order may have been refused"]
-#[derive(Clone, Copy, Debug, PartialEq, Eq)]
+#[non_exhaustive]
+#[derive(Clone, Copy, Debug, PartialEq, Eq, Hash)]
 pub enum Verdict {
     /// The errand joins its robot's queue, and has this number among the client's accepted errands.
     Accepted(u64),
@@ -470,6 +477,8 @@ pub enum Verdict {
     NoErrand,
     /// The errand is its robot's front.
     TooLate,
+    /// A verdict that the library has and this crate has not.
+    Unknown(u32),
 }
 
 impl Verdict {
@@ -489,6 +498,7 @@ impl Verdict {
             Verdict::LifeSpent => "life-spent",
             Verdict::NoErrand => "no-errand",
             Verdict::TooLate => "too-late",
+            Verdict::Unknown(_) => "unknown",
         }
     }
 
@@ -507,7 +517,7 @@ impl Verdict {
             111 => Verdict::LifeSpent,
             112 => Verdict::NoErrand,
             113 => Verdict::TooLate,
-            _ => unreachable!("the library has no verdict {verdict}"),
+            verdict => Verdict::Unknown(verdict),
         }
     }
 }
@@ -525,7 +535,8 @@ pub struct Report {
 }
 
 /// An order, in a list of orders.
-#[derive(Clone, Copy, Debug, PartialEq, Eq)]
+#[non_exhaustive]
+#[derive(Clone, Copy, Debug, PartialEq, Eq, Hash)]
 pub enum Order {
     /// The robot is to go to the cell.
     Go { client: u32, robot: u32, cell: u32 },
@@ -586,6 +597,7 @@ pub struct OpenErrand {
 }
 
 /// What a robot does.
+#[non_exhaustive]
 #[derive(Clone, Copy, Debug, PartialEq, Eq, Hash)]
 pub enum State {
     /// It has no errand.
@@ -594,6 +606,8 @@ pub enum State {
     Busy,
     /// It takes no further errands; it may still have some.
     Shut,
+    /// A state that the library has and this crate has not.
+    Unknown(u32),
 }
 
 impl State {
@@ -603,6 +617,7 @@ impl State {
             State::Free => "free",
             State::Busy => "busy",
             State::Shut => "shut",
+            State::Unknown(_) => "unknown",
         }
     }
 
@@ -611,7 +626,7 @@ impl State {
             1 => State::Free,
             2 => State::Busy,
             3 => State::Shut,
-            _ => unreachable!("the library has no state {state}"),
+            state => State::Unknown(state),
         }
     }
 }
@@ -630,7 +645,8 @@ pub struct Standing {
 }
 
 /// A notice to a client.
-#[derive(Clone, Copy, Debug, PartialEq, Eq)]
+#[non_exhaustive]
+#[derive(Clone, Copy, Debug, PartialEq, Eq, Hash)]
 pub enum Notice {
     /// The verdict of the client's order.
     Verdict {
@@ -649,6 +665,15 @@ pub enum Notice {
     },
 }
 
+impl Notice {
+    /// Its number among the client's notices, from 1.
+    pub fn seq(&self) -> u64 {
+        match *self {
+            Notice::Verdict { seq, .. } | Notice::Arrived { seq, .. } => seq,
+        }
+    }
+}
+
 /// What a client has, and had.
 #[derive(Clone, Copy, Debug, PartialEq, Eq)]
 pub struct Account {
@@ -663,6 +688,7 @@ pub struct Account {
 }
 
 /// A chapter that a fleet handed out. Its text can be written in another thread, while the fleet goes on.
+#[derive(Debug)]
 pub struct Chapter {
     handle: Handle,
 }
@@ -688,14 +714,36 @@ impl Chapter {
     }
 }
 
-/// What is done with a chapter that is full.
-type Keeper = Box<dyn FnMut(Chapter) + Send>;
+/// The full chapter of a fleet that rolls, as its keeper is shown it before the next one begins.
+#[derive(Debug)]
+pub struct FullChapter<'a> {
+    fleet: &'a Handle,
+}
+
+impl FullChapter<'_> {
+    /// Its trace.
+    pub fn trace(&self) -> Result<String, Refused> {
+        present_trace(self.fleet)
+    }
+}
+
+/// Whether a full chapter was kept.
+type Keeper = Box<dyn FnMut(&FullChapter<'_>) -> bool + Send>;
 
 /// A fleet.
 pub struct Fleet {
     handle: Handle,
     robots: usize,
+    /// Of the present chapter.
+    number: u64,
     keeper: Option<Keeper>,
+}
+
+impl fmt::Debug for Fleet {
+    fn fmt(&self, f: &mut fmt::Formatter<'_>) -> fmt::Result {
+        let Fleet { robots, number, keeper, .. } = self;
+        f.debug_struct("Fleet").field("robots", robots).field("chapter", number).field("rolls", &keeper.is_some()).finish_non_exhaustive()
+    }
 }
 
 // SAFETY: the library proves that what a handle owns may move between threads, and what keeps chapters may. The methods with
@@ -718,6 +766,7 @@ impl Fleet {
         let mut fleet = Fleet {
             handle: Handle::CLOSED,
             robots: robots.len(),
+            number: 0,
             keeper: None,
         };
         let mut fault = RawFault::default();
@@ -749,6 +798,7 @@ impl Fleet {
         let mut fleet = Fleet {
             handle: Handle::CLOSED,
             robots: robots.len(),
+            number: 0,
             keeper: None,
         };
         let mut fault = RawFault::default();
@@ -766,31 +816,36 @@ impl Fleet {
                 &mut fault,
             )
         };
-        check_told(code, &fault).map(|()| fleet)
+        check_told(code, &fault)?;
+        fleet.number = number_in(&fleet.trace()?);
+        Ok(fleet)
     }
 
-    /// From now on an order, a tick or a shut that finds the chapter full is made in the next one; the full one is handed to
-    /// `keep` first. Only in the last of all chapters it is refused by `Code::ChapterFull`.
-    pub fn roll(&mut self, keep: impl FnMut(Chapter) + Send + 'static) {
+    /// From now on an order, a tick or a shut that finds the chapter full is made in the next one; `keep` is shown the full one
+    /// first, and returns whether it kept it (`|_| true` drops each). Where it returns false the call is refused by
+    /// `Code::ChapterFull`; then, and where it panics, fleet and chapter are as they were, and the next call shows the chapter
+    /// again. In the last of all chapters the call is refused by `Code::ChapterFull` too, and `keep` is not called.
+    pub fn roll(&mut self, keep: impl FnMut(&FullChapter<'_>) -> bool + Send + 'static) {
         self.keeper = Some(Box::new(keep));
     }
 
     /// A call that may find the chapter full.
     fn in_chapter(&mut self, mut call: impl FnMut(&mut Handle) -> u32) -> Result<u32, Refused> {
         let code = call(&mut self.handle);
-        if code != CHAPTER_FULL || self.keeper.is_none() {
+        if code != CHAPTER_FULL || !self.is_full_kept()? {
             return Ok(code);
         }
-        match self.hand_out() {
-            Ok(ended) => {
-                if let Some(keep) = &mut self.keeper {
-                    keep(ended);
-                }
-                Ok(call(&mut self.handle))
-            }
-            Err(refused) if refused.code.number() == BOOK_SPENT => Ok(code),
-            Err(refused) => Err(refused),
+        self.next_chapter()?;
+        Ok(call(&mut self.handle))
+    }
+
+    /// Whether the next chapter is to begin: one may follow, and the keeper, if there is one, kept the full one.
+    fn is_full_kept(&mut self) -> Result<bool, Refused> {
+        if self.keeper.is_none() || self.number + 1 >= u64::from(self.limits()?.chapters) {
+            return Ok(false);
         }
+        let full = FullChapter { fleet: &self.handle };
+        Ok(self.keeper.as_mut().is_some_and(|keep| keep(&full)))
     }
 
     fn judged(code: u32, told: RawJudgement) -> Result<Verdict, Refused> {
@@ -913,6 +968,19 @@ impl Fleet {
         }
     }
 
+    /// The client's notices that it was not given yet, one after the other. It ends at the first refusal.
+    pub fn notices(&mut self, client: u32) -> impl Iterator<Item = Result<Notice, Refused>> + '_ {
+        let mut is_refused = false;
+        std::iter::from_fn(move || {
+            if is_refused {
+                return None;
+            }
+            let told = self.give(client).transpose();
+            is_refused = matches!(told, Some(Err(_)));
+            told
+        })
+    }
+
     /// All notices that the client was not given yet.
     pub fn give_all(&mut self, client: u32) -> Result<Vec<Notice>, Refused> {
         let pending = self.pending_count(client)? as usize;
@@ -1000,10 +1068,14 @@ impl Fleet {
     /// Where the robots stand, by number.
     pub fn placement(&self) -> Result<Vec<u32>, Refused> {
         let mut cells = vec![0; self.robots];
-        check(unsafe {
-            raw::nashirudder_placement(&mut self.handle.seen(), cells.as_mut_ptr(), cells.len())
-        })?;
+        self.placement_into(&mut cells)?;
         Ok(cells)
+    }
+
+    /// The same, into a list that has one place for each robot; else it is refused by `Code::WrongLength`.
+    pub fn placement_into(&self, cells: &mut [u32]) -> Result<(), Refused> {
+        // SAFETY: a slice's pointer is never null, and its length is true.
+        check(unsafe { raw::nashirudder_placement(&mut self.handle.seen(), cells.as_mut_ptr(), cells.len()) })
     }
 
     /// How each robot stands, by number.
@@ -1082,10 +1154,7 @@ impl Fleet {
 
     /// The trace of the present chapter.
     pub fn trace(&self) -> Result<String, Refused> {
-        // SAFETY: the pointers are those of `text_by`.
-        text_by(|text, size, length| unsafe {
-            raw::nashirudder_trace(&mut self.handle.seen(), text, size, length)
-        })
+        present_trace(&self.handle)
     }
 
     /// Begins the next chapter, and hands out the one that ended.
@@ -1094,18 +1163,33 @@ impl Fleet {
         check(unsafe {
             raw::nashirudder_next_chapter_into(&mut self.handle, &mut ended.handle)
         })?;
+        self.number += 1;
         Ok(ended)
     }
 
     /// Begins the next chapter; the entries of the present one are let go.
     pub fn next_chapter(&mut self) -> Result<(), Refused> {
-        check(unsafe { raw::nashirudder_next_chapter(&mut self.handle) })
+        check(unsafe { raw::nashirudder_next_chapter(&mut self.handle) })?;
+        self.number += 1;
+        Ok(())
     }
 
     /// Keeps distances to goals that no robot has any more, up to this many bytes.
     pub fn keep(&mut self, bytes: usize) -> Result<(), Refused> {
         check(unsafe { raw::nashirudder_keep(&mut self.handle, bytes) })
     }
+}
+
+/// The trace of a fleet's present chapter.
+fn present_trace(fleet: &Handle) -> Result<String, Refused> {
+    // SAFETY: the pointers are those of `text_by`.
+    text_by(|text, size, length| unsafe { raw::nashirudder_trace(&mut fleet.seen(), text, size, length) })
+}
+
+/// The number of a chapter, with which the library's trace begins: `{"chapter":N,`.
+fn number_in(trace: &str) -> u64 {
+    let digits = trace.trim_start_matches("{\"chapter\":").split(',').next();
+    digits.and_then(|digits| digits.parse().ok()).unwrap_or(0)
 }
 
 /// A chapter's text, by a call that says how long it is. It is passed a vector's pointer and length.
@@ -1210,6 +1294,7 @@ fn ways_of(told: Vec<u32>) -> Vec<Option<u32>> {
 }
 
 /// A map that is read once, for any number of questions.
+#[derive(Debug)]
 pub struct Map {
     handle: Handle,
 }

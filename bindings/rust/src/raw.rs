@@ -1,6 +1,7 @@
 //! The declarations of nashirudder.h that this crate calls.
 
 #[repr(C)]
+#[derive(Debug)]
 pub(crate) struct Handle {
     at: *mut u8,
     is_open: bool,

@@ -70,7 +70,7 @@ fn refuses() -> Result<(), Refused> {
 fn moves_to_a_thread() -> Result<(), Refused> {
     let mut fleet = Fleet::open(RING, &[Robot::at(0)], &Setup::new(1))?;
     assert_eq!(fleet.go(0, 0, 1)?, Verdict::Accepted(1));
-    let mut fleet = std::thread::spawn(move || fleet.tick().map(|_| fleet)).join().expect("no panic")?;
+    let fleet = std::thread::spawn(move || fleet.tick().map(|_| fleet)).join().expect("no panic")?;
     assert_eq!(fleet.placement()?, [1]);
     Ok(())
 }
@@ -153,7 +153,7 @@ fn lists_errands() -> Result<(), Refused> {
 
 #[test]
 fn prints_a_sentence() {
-    let refused = Fleet::open(RING, &[Robot::at(0), Robot::at(5)], &Setup::new(1)).err().expect("a wall");
+    let refused = Fleet::open(RING, &[Robot::at(0), Robot::at(5)], &Setup::new(1)).expect_err("a wall");
     assert_eq!((refused.code, refused.code.number()), (Code::StartBlocked, 32));
     assert_eq!(refused.to_string(), "robot 1 starts on a cell that is no floor");
 }
@@ -191,7 +191,7 @@ fn hands_out_chapters() -> Result<(), Refused> {
     judge(RING, &written)?;
     assert_eq!(name_of(judge(ROW, &written)), ("chapter-illegal", (1, 3)));
     let (sends, kept) = std::sync::mpsc::channel();
-    fleet.roll(move |chapter| sends.send(chapter.trace()).expect("somebody listens"));
+    fleet.roll(move |chapter| sends.send(chapter.trace()).is_ok());
     fleet.tick()?;
     let second = fleet.trace()?;
     fleet.tick()?;
@@ -201,10 +201,61 @@ fn hands_out_chapters() -> Result<(), Refused> {
     assert_eq!(name_of(fleet.tick()), ("chapter-full", (0, 0)));
     assert_eq!(name_of(fleet.hand_out()), ("book-spent", (0, 0)));
     let mut rolls = Fleet::open(RING, &[Robot::at(0)], &Setup { chapters: 10, ..setup })?;
-    rolls.roll(drop);
+    rolls.roll(|_| true);
     let orders = [Order::Go { client: 0, robot: 0, cell: 1 }; 5];
     let (verdicts, stopped) = rolls.take_many(&orders)?;
     assert_eq!((verdicts.len(), verdicts[4], stopped), (5, Verdict::Accepted(5), None));
+    Ok(())
+}
+
+/// A keeper that fails leaves fleet and chapter as they were, and the chapter is shown again.
+#[test]
+fn keeps_a_chapter_before_the_next_begins() -> Result<(), Refused> {
+    use std::sync::{Arc, Mutex};
+    let setup = Setup { chapter: 2, chapters: 3, ..Setup::endless(1) };
+    let mut fleet = Fleet::open(RING, &[Robot::at(0)], &setup)?;
+    let shown: Arc<Mutex<Vec<String>>> = Arc::default();
+    let seen = Arc::clone(&shown);
+    fleet.roll(move |chapter| {
+        let mut seen = seen.lock().unwrap_or_else(|broken| broken.into_inner());
+        seen.push(chapter.trace().expect("memory"));
+        assert_ne!(seen.len(), 2, "disk full");
+        seen.len() > 2
+    });
+    fleet.tick()?;
+    fleet.tick()?;
+    let full = fleet.trace()?;
+    assert_eq!(name_of(fleet.tick()), ("chapter-full", (0, 0)));
+    let panics = std::panic::catch_unwind(std::panic::AssertUnwindSafe(|| fleet.tick()));
+    assert!(panics.is_err());
+    assert_eq!((fleet.trace()?, fleet.clock()?), (full.clone(), 2));
+    assert_eq!(fleet.tick()?.tick, 3);
+    let told = shown.lock().unwrap_or_else(|broken| broken.into_inner()).clone();
+    assert_eq!(told, [full.clone(), full.clone(), full.clone()]);
+    // It goes on from its second chapter, which has the number 1: one more may follow, and then none.
+    let mut goes_on = Fleet::reopen(RING, &full, &[Robot::at(0)], &setup)?;
+    goes_on.roll(|_| true);
+    for _ in 0..4 {
+        goes_on.tick()?;
+    }
+    assert_eq!((name_of(goes_on.tick()), goes_on.clock()?), (("chapter-full", (0, 0)), 6));
+    Ok(())
+}
+
+#[test]
+fn lists_notices_and_places() -> Result<(), Refused> {
+    let mut fleet = Fleet::open(RING, &[Robot::at(0), Robot::at(3)], &Setup { clients: 2, ..Setup::default() })?;
+    assert_eq!(fleet.go(1, 0, 1)?, Verdict::Accepted(1));
+    fleet.tick()?;
+    let told = fleet.notices(1).collect::<Result<Vec<_>, _>>()?;
+    assert_eq!(told[0], Notice::Verdict { seq: 1, order: 1, verdict: Verdict::Accepted(1) });
+    assert_eq!(told[1], Notice::Arrived { seq: 2, number: 1, robot: 0, cell: 1, tick: 1, stamp: 0 });
+    assert_eq!((told.len(), fleet.notices(1).count(), fleet.notices(7).count()), (2, 0, 1));
+    let mut cells = [0; 2];
+    fleet.placement_into(&mut cells)?;
+    assert_eq!(cells, [1, 3]);
+    assert_eq!(name_of(fleet.placement_into(&mut [0; 3])), ("wrong-length", (0, 0)));
+    assert_eq!(format!("{fleet:?}"), "Fleet { robots: 2, chapter: 0, rolls: false, .. }");
     Ok(())
 }
 

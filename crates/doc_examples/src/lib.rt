@@ -17,7 +17,7 @@ mod scripts;
 mod traces;
 mod worlds;
 
-pub use bridges::has_no_bridge;
+pub use bridges::{has_no_bridge, is_roomy};
 pub use checks::is_safe;
 pub use distances::field_to;
 pub use errands::add_errand;

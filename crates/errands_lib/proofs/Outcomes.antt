@@ -3,8 +3,7 @@ use Rattle.std.proofs.Common.{◌≡◌, ◌↔◌, ℕ, suc, Bool, List, [], �
 use Rattle.std.specs.Prelude.{IfOk}
 use Rattle.std.specs.declared.alloc.AllocError.{AllocError}
 use Rattle.std.specs.declared.alloc.Global.{Global}
-use Rattle.fleet_grid.specs.Floor.{Floor, IsNeighbour}
-use Rattle.fleet_grid.specs.Walk.{IsBridgeless}
+use Rattle.fleet_grid.specs.Floor.{Floor}
 use Rattle.fleet_book.specs.declared.event.Event.{Event}
 use Rattle.fleet_world.specs.declared.reply.Reply.{Reply}
 use Rattle.fleet_world.specs.Run.{State, Run, opened_state}
@@ -13,7 +12,8 @@ use Rattle.fleet_world.proofs.RunLaws.{end-once}
 use Rattle.fleet_history.specs.Legal.{IsLegal}
 use Rattle.fleet_history.specs.Laws.{ArrivesInOrder, ArrivalsRise, EachTick, HasNoConflict, AcceptsNoneClosed}
 use Rattle.fleet_history.specs.Numbering.{AreNumbered}
-use Rattle.fleet_planner.specs.Planned.{IsPlanned, IsAdvancingTick}
+use Rattle.fleet_planner.specs.Planned.{IsPlanned}
+use Rattle.fleet_bound.specs.Roomy.{AdvancesIfRoomy}
 use Rattle.fleet_history.specs.History.{History}
 use Rattle.fleet_trace.specs.declared.fault.JudgeFault.{JudgeFault}
 use Rattle.fleet_trace.specs.declared.fault.JudgeFault.TheVariants as judge_fault
@@ -58,7 +58,7 @@ said_more P Q (Err x) more p = tt
 pub lawful_is : {A : Type 0} (m g : Floor) (last : State A) → g ≡ m → last.world.floor ≡ g → IsLegal last.world.floor last.world.history → KeepsRings last → KeepsEachRing last → ArrivesInOrder last.world.history
     → ArrivalsRise last.world.history → ((client : ℕ) → AreNumbered last.world.history client) → HasNoConflict last.world.floor last.world.history → AcceptsNoneClosed last.world.history
     → EachTick (IsPlanned last.world.floor last.world.ties) last.world.history
-    → (IsBridgeless (IsNeighbour last.world.floor) → EachTick (IsAdvancingTick last.world.floor) last.world.history) → IsLawfulEnd m last
+    → AdvancesIfRoomy last.world.floor last.world.history → IsLawfulEnd m last
 lawful_is m g last e f legal rings each_ring arrivals numbers numbered conflicts closes planned advancing = record {
   legal = subst (λ (x : Floor). IsLegal x last.world.history) (f ∙ e) legal;
   rings = rings;
@@ -70,7 +70,7 @@ lawful_is m g last e f legal rings each_ring arrivals numbers numbered conflicts
   conflicts = subst (λ (x : Floor). HasNoConflict x last.world.history) (f ∙ e) conflicts;
   closes = closes;
   planned = subst (λ (x : Floor). EachTick (IsPlanned x last.world.ties) last.world.history) (f ∙ e) planned;
-  advancing = subst (λ (x : Floor). IsBridgeless (IsNeighbour x) → EachTick (IsAdvancingTick x) last.world.history) (f ∙ e) advancing;
+  advancing = subst (λ (x : Floor). AdvancesIfRoomy x last.world.history) (f ∙ e) advancing;
 }
 
 pub ran_is : (kit : KitLaws) (laws : HookLaws) (m g : Floor) (p : Plan) (trace : Bool) (called shown : List Event) (replies : List Reply) (last : State Global) → g ≡ m → called ≡ p.events → shown ≡ p.events → laws ≡ chosen_laws kit p

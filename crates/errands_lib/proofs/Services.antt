@@ -4,14 +4,14 @@ use Rattle.std.specs.Prelude.{IfOk, ◌⊎◌, nat_lt}
 use Rattle.std.specs.List.{All}
 use Rattle.std.specs.declared.alloc.AllocError.{AllocError}
 use Rattle.std.specs.declared.alloc.Global.{Global}
-use Rattle.fleet_grid.specs.Floor.{Floor, IsNeighbour}
-use Rattle.fleet_grid.specs.Walk.{IsBridgeless}
+use Rattle.fleet_grid.specs.Floor.{Floor}
 use Rattle.fleet_bound.specs.Bound.{WaitsAreBounded}
 use Rattle.fleet_core.specs.Core.{opening_of}
 use Rattle.fleet_history.specs.History.{History}
 use Rattle.fleet_history.specs.Laws.{EachTick}
 use Rattle.fleet_history.specs.Legal.{IsLegal}
-use Rattle.fleet_planner.specs.Planned.{IsPlanned, IsAdvancingTick}
+use Rattle.fleet_planner.specs.Planned.{IsPlanned}
+use Rattle.fleet_bound.specs.Roomy.{AdvancesIfRoomy, HasBound}
 use Rattle.fleet_core.specs.Hooks.{HookLaws}
 use Rattle.fleet_core.specs.declared.faults.OpenFault.{OpenFault}
 use Rattle.fleet_core.specs.OpeningFaults.{IsRefused}
@@ -36,8 +36,8 @@ pub record Ends (g own : Floor) (laws : HookLaws) (p : Plan) (lane_full : ℕ) (
   pub floor : own ≡ g
   pub opening : h.opening ≡ opening_of p.starts p.clients p.limits laws
   pub planned : EachTick (IsPlanned own laws.ties) h
-  pub advancing : IsBridgeless (IsNeighbour own) → EachTick (IsAdvancingTick own) h
-  pub bounded : IsBridgeless (IsNeighbour own) → WaitsAreBounded own h
+  pub advancing : AdvancesIfRoomy own h
+  pub bounded : HasBound own h → WaitsAreBounded own h
   pub counted : AreFullCounted h p.events p.limits.orders p.clients lane_full
 
 module _ (kit : KitLaws) (laws : HookLaws) (m g : Floor) (p : Plan) (same : g ≡ m) (chosen : laws ≡ chosen_laws kit p) where
@@ -63,8 +63,8 @@ module _ (kit : KitLaws) (laws : HookLaws) (m g : Floor) (p : Plan) (same : g �
         history = h;
         opening = ends.opening ∙ ap (λ (x : HookLaws). opening_of p.starts p.clients p.limits x) chosen;
         planned = subst (λ (x : HookLaws). EachTick (IsPlanned m x.ties) h) chosen (subst (λ (y : Floor). EachTick (IsPlanned y laws.ties) h) floor ends.planned);
-        advancing = subst (λ (y : Floor). IsBridgeless (IsNeighbour y) → EachTick (IsAdvancingTick y) h) floor ends.advancing;
-        bounded = subst (λ (y : Floor). IsBridgeless (IsNeighbour y) → WaitsAreBounded y h) floor ends.bounded;
+        advancing = subst (λ (y : Floor). AdvancesIfRoomy y h) floor ends.advancing;
+        bounded = subst (λ (y : Floor). HasBound y h → WaitsAreBounded y h) floor ends.bounded;
         counted = ends.counted;
         legal = subst (λ (y : Floor). IsLegal y h) judged legal;
         posted = posted;

@@ -5,8 +5,7 @@ use Rattle.std.specs.List.{list_any}
 use Rattle.fleet_map.specs.declared.fault.MapFault.{MapFault}
 use Rattle.fleet_map.specs.Grammar.{Map, map_of}
 use Rattle.fleet_map.specs.Text.{lines_of}
-use Rattle.fleet_grid.specs.Floor.{Floor, IsNeighbour, floor_of_map}
-use Rattle.fleet_grid.specs.Walk.{IsBridgeless}
+use Rattle.fleet_grid.specs.Floor.{Floor, floor_of_map}
 use Rattle.fleet_book.specs.declared.event.Event.{Event}
 use Rattle.fleet_world.specs.declared.reply.Reply.{Reply}
 use Rattle.fleet_core.specs.declared.faults.OpenFault.{OpenFault}
@@ -19,7 +18,8 @@ use Rattle.fleet_world.specs.Laws.{KeepsRings, KeepsEachRing, CollectsInOrder}
 use Rattle.fleet_history.specs.Legal.{IsLegal}
 use Rattle.fleet_history.specs.Laws.{ArrivesInOrder, ArrivalsRise, EachTick, HasNoConflict, AcceptsNoneClosed}
 use Rattle.fleet_history.specs.Numbering.{AreNumbered}
-use Rattle.fleet_planner.specs.Planned.{IsPlanned, IsAdvancingTick}
+use Rattle.fleet_planner.specs.Planned.{IsPlanned}
+use Rattle.fleet_bound.specs.Roomy.{AdvancesIfRoomy}
 use Rattle.fleet_history.specs.History.{History}
 use Rattle.fleet_trace.specs.declared.fault.TraceFault.{TraceFault}
 use Rattle.fleet_trace.specs.declared.fault.TraceFault.TheVariants as trace_fault
@@ -86,10 +86,11 @@ pub record IsLawfulEnd {A : Type 0} (m : Floor) (last : State A) : Type 0 where
   pub numbered : (client : ℕ) → AreNumbered last.world.history client
   pub conflicts : HasNoConflict m last.world.history
   pub closes : AcceptsNoneClosed last.world.history
-  -- each tick is purposeful, its eldest advances unless a bridge is in the way, and the tie laws decide
+  -- each tick is purposeful, its eldest advances unless a robot stands on each cell beyond a bridge in its way, and the tie laws
+  -- decide
   pub planned : EachTick (IsPlanned m last.world.ties) last.world.history
-  -- on a bridgeless map each tick brings the robot that has waited longest nearer, or it stood on its goal
-  pub advancing : IsBridgeless (IsNeighbour m) → EachTick (IsAdvancingTick m) last.world.history
+  -- if all errands go to roomy cells, each tick brings the robot that has waited longest nearer, or it stood on its goal
+  pub advancing : AdvancesIfRoomy m last.world.history
 
 -- the trace or the lines of a core run of the script's events, on a world that nothing forbids to open
 pub record IsRunText (kit : KitLaws) (trace : Bool) (m : Floor) (plan : Plan) (o : Outcome) : Type 0 where

@@ -39,6 +39,7 @@ pub data DoesJob {I F S : Type 0} (opens : I → List ℕ → Result F InputFaul
 -- words that name no job end with status 2 and a prefix of a text about them on the error writer
 abbrev pub Refuses : WordFault → Option (List ℕ) → Option (List ℕ) → ℕ → Type 0
 Refuses (word_fault.Words text) old_err new_err status = (status ≡ 2) × AppendsPrefix old_err new_err (string_bytes text)
+Refuses (word_fault.Help text) old_err new_err status = (status ≡ 2) × AppendsPrefix old_err new_err (string_bytes text)
 Refuses word_fault.NoMemory old_err new_err status = Failed input_fault.NoMemory old_err new_err status
 
 -- the words, of which the first is the program's name, are refused, or the job that they name is done

@@ -4,15 +4,15 @@ use Rattle.std.specs.declared.alloc.Global.{Global}
 use Rattle.std.specs.List.{All}
 use Rattle.fleet_map.specs.declared.fault.MapFault.{MapFault}
 use Rattle.fleet_map.specs.Grammar.{Map, map_of}
-use Rattle.fleet_grid.specs.Floor.{Floor, IsNeighbour, floor_of_map}
-use Rattle.fleet_grid.specs.Walk.{IsBridgeless}
+use Rattle.fleet_grid.specs.Floor.{Floor, floor_of_map}
 use Rattle.fleet_bound.specs.Bound.{WaitsAreBounded}
 use Rattle.fleet_core.specs.Core.{opening_of}
 use Rattle.fleet_core.specs.declared.faults.OpenFault.{OpenFault}
 use Rattle.fleet_core.specs.OpeningFaults.{IsRefused}
 use Rattle.fleet_history.specs.Laws.{EachTick}
 use Rattle.fleet_history.specs.Legal.{IsLegal}
-use Rattle.fleet_planner.specs.Planned.{IsPlanned, IsAdvancingTick}
+use Rattle.fleet_planner.specs.Planned.{IsPlanned}
+use Rattle.fleet_bound.specs.Roomy.{AdvancesIfRoomy, HasBound}
 use Rattle.fleet_history.specs.History.{History}
 use Rattle.fleet_trace.specs.Text.{trace_text}
 use Rattle.fleet_serve.specs.declared.served.ServeFault.{ServeFault}
@@ -39,8 +39,8 @@ pub record IsServedText (kit : KitLaws) (m : Floor) (plan : Plan) (lane_full : �
   pub opening : history.opening ≡ opening_of plan.starts plan.clients plan.limits (chosen_laws kit plan)
   pub legal : IsLegal m history
   pub planned : EachTick (IsPlanned m (chosen_laws kit plan).ties) history
-  pub advancing : IsBridgeless (IsNeighbour m) → EachTick (IsAdvancingTick m) history
-  pub bounded : IsBridgeless (IsNeighbour m) → WaitsAreBounded m history
+  pub advancing : AdvancesIfRoomy m history
+  pub bounded : HasBound m history → WaitsAreBounded m history
   -- the orders taken of each client are posts of its lines, in their order
   pub posted : TakesPosted history plan.events plan.clients
   -- they are all of them up to its first close, where no post met a full lane and no client spent its numbers

@@ -20,12 +20,13 @@ use std::thread::Threads;
 /// The status of words that name no job.
 const BAD_WORDS: u8 = 2;
 
-/// Prints on the error output why words name no job. Returns the status: 2, or 7 if memory ran out.
+/// Prints on the error output why words name no job, also the help that they ask for. Returns the status: 2, or 7 if
+/// memory ran out.
 pub fn refuse_words<E: Write>(fault: &WordFault, error: &mut E) -> u8
     ensures { Refuses fault.now (E.contents error.old) (E.contents error.new) result }
 {
     match fault {
-        WordFault::Words(text) => {
+        WordFault::Words(text) | WordFault::Help(text) => {
             write_whole(error, text.as_bytes());
             BAD_WORDS
         }

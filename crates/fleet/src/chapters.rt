@@ -2,61 +2,111 @@
 
 ghost use Rattle.std.specs.Prelude.{None};
 
+use crate::files::{sync_folder, write_synced};
+use crate::streams::Trouble;
 use fleet_lib::{Chapter, ChapterSink, SinkFault, trace_line, write_whole};
-use std::alloc::{Alloc, Global};
-use std::fs::{self, File, Files, OpenFile};
-use std::io::ErrorKind;
+use std::alloc::{Alloc, AllocError, Global};
+use std::fs::{self, Files};
+use std::io::{self, ErrorKind, Write};
+use std::sync::Arc;
 
-/// A folder for the traces of chapters, or none.
+/// A folder for the traces of chapters, or none, and the error output.
 #[derive(Drop)]
-pub(crate) struct TraceFolder<'a, R> {
-    pub(crate) rt: &'a R,
-    pub(crate) name: Option<&'a str>,
+pub(crate) struct TraceFolder<'a, R, E> {
+    rt: &'a R,
+    name: Option<&'a str>,
+    error: E,
+    /// The file that could not be written last, and why.
+    fault: String,
+    /// Why the folder takes no chapter now.
+    trouble: Arc<Trouble>,
 }
 
-/// Writes a file, down to the disk.
-fn write_synced<R: Files + Alloc<A = Global>>(
-    rt: &R,
-    name: &str,
-    text: &[u8],
-) -> Result<(), SinkFault> {
-    let mut file = match File::create(rt, name) {
-        Ok(file) => file,
-        Err(fault) if fault.kind() == ErrorKind::OutOfMemory => return Err(SinkFault::NoMemory),
-        Err(_) => return Err(SinkFault::File),
-    };
-    if !write_whole(&mut file, text) {
-        return Err(SinkFault::File);
-    }
-    match file.sync_all() {
-        Ok(()) => Ok(()),
-        Err(_) => Err(SinkFault::File),
+/// Whether a file system may have no links: it refuses each of them by this.
+fn has_no_links(fault: &io::Error) -> bool {
+    matches!(
+        fault.kind(),
+        ErrorKind::PermissionDenied | ErrorKind::Unsupported
+    )
+}
+
+/// Gives a file this name, which nothing has yet, in place of its own.
+fn move_to<R: Files>(rt: &R, beside: &str, name: &str) -> io::Result<()> {
+    match fs::hard_link(rt, beside, name) {
+        Ok(()) => {
+            // The file has its name, also where its first one stays.
+            let _removed = fs::remove_file(rt, beside);
+            Ok(())
+        }
+        Err(fault) if has_no_links(&fault) => {
+            if fs::symlink_metadata(rt, name).is_ok() {
+                return Err(io::Error::from(ErrorKind::AlreadyExists));
+            }
+            fs::rename(rt, beside, name)
+        }
+        Err(fault) => Err(fault),
     }
 }
 
-/// Writes a file under this name, and then renames it to the other name, so that a file with the other name is always
-/// whole. After a fault no part is left.
-fn write_beside<R: Files + Alloc<A = Global>>(
+/// Writes a new file next to its place in a folder, down to the disk, and then gives it its name, so that a file of
+/// this name is always whole and none is ever written over. After a fault no part is left.
+fn keep_text<R: Files>(
     rt: &R,
-    beside: &str,
-    name: &str,
+    folder: &str,
+    (beside, name): (&str, &str),
     text: &[u8],
-) -> Result<(), SinkFault> {
-    let written = match write_synced(rt, beside, text) {
-        Ok(()) => match fs::rename(rt, beside, name) {
-            Ok(()) => Ok(()),
-            Err(_) => Err(SinkFault::File),
-        },
+) -> io::Result<()> {
+    let placed = match write_synced(rt, beside, text) {
+        Ok(()) => move_to(rt, beside, name),
         Err(fault) => Err(fault),
     };
-    if written.is_err() {
+    if placed.is_err() {
         let _removed = fs::remove_file(rt, beside);
+        return placed;
     }
-    written
+    let listed = sync_folder(rt, folder);
+    if listed.is_err() {
+        // It is tried again, under the same name.
+        let _removed = fs::remove_file(rt, name);
+    }
+    listed
 }
 
-impl<R: Files + Alloc<A = Global>> ChapterSink for TraceFolder<'_, R> {
+impl<'a, R: Files + Alloc<A = Global>, E: Write> TraceFolder<'a, R, E> {
+    pub(crate) fn new(
+        rt: &'a R,
+        name: Option<&'a str>,
+        trouble: Arc<Trouble>,
+        error: E,
+    ) -> TraceFolder<'a, R, E> {
+        TraceFolder {
+            rt,
+            name,
+            error,
+            fault: String::new(rt.alloc()),
+            trouble,
+        }
+    }
+
+    /// Notes why the file of this name was not written.
+    fn note(&mut self, name: &str, why: &io::Error) -> Result<(), AllocError> {
+        self.trouble.note(why);
+        self.fault = format!(in self.rt.alloc(); "{name} cannot be written: {why}")?;
+        Ok(())
+    }
+}
+
+impl<R: Files + Alloc<A = Global>, E: Write> ChapterSink for TraceFolder<'_, R, E> {
     ghost kept = { λ _. None };
+
+    fn goes_on(&mut self, chapter: u32, tick: u64) {
+        let line = format!(in self.rt.alloc();
+            "fleet: goes on from chapter {chapter} at tick {tick}\n"
+        );
+        if let Ok(line) = line {
+            write_whole(&mut self.error, line.as_bytes());
+        }
+    }
 
     fn keep(&mut self, chapter: &Chapter) -> Result<(), SinkFault> {
         let Some(folder) = self.name else {
@@ -67,6 +117,21 @@ impl<R: Files + Alloc<A = Global>> ChapterSink for TraceFolder<'_, R> {
         let name = format!(in alloc; "{folder}/chapter-{number}.json")?;
         let beside = format!(in alloc; "{folder}/chapter-{number}.part")?;
         let text = trace_line(alloc, chapter)?;
-        write_beside(self.rt, beside.as_str(), name.as_str(), text.as_bytes())
+        let names = (beside.as_str(), name.as_str());
+        match keep_text(self.rt, folder, names, text.as_bytes()) {
+            Ok(()) => {
+                self.trouble.clear();
+                Ok(())
+            }
+            Err(why) if why.kind() == ErrorKind::OutOfMemory => Err(SinkFault::NoMemory),
+            Err(why) => {
+                self.note(name.as_str(), &why)?;
+                Err(SinkFault::File)
+            }
+        }
+    }
+
+    fn fault(&self) -> &str {
+        self.fault.as_str()
     }
 }

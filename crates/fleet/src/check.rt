@@ -2,7 +2,7 @@
 
 use crate::ends::{FileFault, MOST_MAP_BYTES, complain, file_bytes};
 use fleet_lib::{
-    Check, FormAsked, MOST_PLAN_BYTES, Said, TextForm, answer_check, tell, write_whole,
+    Check, FormAsked, MOST_PLAN_BYTES, PlanRules, Said, TextForm, answer_check, tell, write_whole,
 };
 use std::alloc::{Alloc, Global};
 use std::fs::Files;
@@ -16,13 +16,17 @@ fn answer_files<'a, R: Files + Alloc<A = Global>>(
 ) -> Result<Said, FileFault<'a>> {
     let map = file_bytes(rt, check.map.as_str(), MOST_MAP_BYTES)?;
     let plan = file_bytes(rt, check.plan.as_str(), MOST_PLAN_BYTES)?;
-    let (alloc, strict) = (rt.alloc(), check.strict);
+    let rules = PlanRules {
+        form,
+        strict: check.strict,
+        agents: check.agents,
+    };
     let Some(name) = &check.goals else {
-        return Ok(answer_check(alloc, form, strict, None, &map, &plan)?);
+        return Ok(answer_check(rt.alloc(), rules, None, &map, &plan)?);
     };
     let goals = file_bytes(rt, name.as_str(), MOST_PLAN_BYTES)?;
     let scenario = Some(goals.as_slice());
-    Ok(answer_check(alloc, form, strict, scenario, &map, &plan)?)
+    Ok(answer_check(rt.alloc(), rules, scenario, &map, &plan)?)
 }
 
 /// Judges the plan. Returns the status: 0 the plan is valid, 2 no such form, 3 a file failed, 4 the map or 5 the

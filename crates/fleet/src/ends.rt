@@ -19,6 +19,10 @@ pub(crate) enum FileFault<'a> {
     Unreadable(&'a str),
     /// It is longer than such a file may be.
     TooLarge(&'a str),
+    /// It begins with a byte order mark.
+    Marked(&'a str),
+    /// It is JSON with more objects than a plan or a trace can have.
+    Crowded(&'a str),
     /// Memory ran out.
     NoMemory,
 }
@@ -41,7 +45,43 @@ fn unread<'a, F: Read>(name: &'a str, file: &mut F, fault: InputFault) -> FileFa
     }
 }
 
-/// Everything that a file has, at most `most` bytes.
+/// Whether a text begins with a byte order mark.
+fn is_marked(text: &[u8]) -> bool {
+    text.len() >= 3 && &text[..3] == b"\xEF\xBB\xBF".as_slice()
+}
+
+/// Whether a text is JSON, and has more than 64 objects and more than one in 64 bytes, which is more than any plan or
+/// trace has. Each takes some 800 bytes while it is read.
+fn is_crowded(text: &[u8]) -> bool {
+    let mut objects: usize = 0;
+    let mut begun = false;
+    for byte in text {
+        if !begun && !matches!(*byte, b' ' | b'\t' | b'\n' | b'\r') {
+            if *byte != b'{' {
+                return false;
+            }
+            begun = true;
+        }
+        if *byte == b'{' {
+            objects = objects.saturating_add(1);
+        }
+    }
+    objects > 64 && objects > text.len() / 64
+}
+
+/// What is wrong with the text of the file with this name, in any form.
+fn text_fault<'a>(name: &'a str, text: &[u8]) -> Option<FileFault<'a>> {
+    if is_marked(text) {
+        Some(FileFault::Marked(name))
+    } else if is_crowded(text) {
+        Some(FileFault::Crowded(name))
+    } else {
+        None
+    }
+}
+
+/// Everything that a file has, at most `most` bytes. A byte order mark at its begin is a fault, since no text here has
+/// one, and so are too many objects.
 pub(crate) fn file_bytes<'a, R: Files + Alloc<A = Global>>(
     rt: &R,
     name: &'a str,
@@ -52,7 +92,10 @@ pub(crate) fn file_bytes<'a, R: Files + Alloc<A = Global>>(
 {
     match File::open(rt, name) {
         Ok(mut file) => match read_up_to(rt.alloc(), &mut file, most) {
-            Ok(bytes) => Ok(bytes),
+            Ok(bytes) => match text_fault(name, &bytes) {
+                Some(fault) => Err(fault),
+                None => Ok(bytes),
+            },
             Err(fault) => Err(unread(name, &mut file, fault)),
         },
         Err(fault) => match fault.kind() {
@@ -69,6 +112,8 @@ fn line_of(alloc: Global, fault: FileFault<'_>) -> Result<String, AllocError> {
         FileFault::Missing(name) => format!(in alloc; "fleet: file {name} missing\n"),
         FileFault::Unreadable(name) => format!(in alloc; "fleet: file {name} unreadable\n"),
         FileFault::TooLarge(name) => format!(in alloc; "fleet: file {name} too-large\n"),
+        FileFault::Crowded(name) => format!(in alloc; "fleet: file {name} too-many-objects\n"),
+        FileFault::Marked(name) => format!(in alloc; "fleet: file {name} byte-order-mark\n"),
         FileFault::NoMemory => Err(AllocError),
     }
 }

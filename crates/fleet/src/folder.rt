@@ -1,9 +1,10 @@
 //! The folder of chapters, before the fleet begins.
 
-use crate::ends::{FileFault, file_bytes};
-use fleet_lib::{InputFault, KeptText, NamesFault, fail, last_chapter, write_whole};
+use crate::kept_file::{KeptFile, file_of};
+use crate::lock::{lock_folder, try_folder};
+use fleet_lib::{InputFault, NamesFault, fail, last_chapter, write_whole};
 use std::alloc::{Alloc, AllocError, Global};
-use std::fs::{self, File, Files, OpenOptions, TryLockError};
+use std::fs::{self, File, Files};
 use std::io::{self, ErrorKind, Write};
 
 /// Why a folder does not take the chapters of a fleet.
@@ -11,20 +12,27 @@ use std::io::{self, ErrorKind, Write};
 pub(crate) enum FolderFault {
     /// The word is empty.
     NoName,
-    /// No folder is named from which to go on.
-    NoFolder,
+    /// No folder is named from which to go on, though this word asks for it.
+    NoFolder(&'static str),
     /// It is not there, or cannot be written.
-    File,
+    File(io::Error),
     /// Another fleet keeps its chapters there.
     InUse,
     /// Chapters of a fleet are there.
     HasChapters,
+    /// There is no chapter from which to go on, and no fleet may begin anew.
+    NoChapter,
     /// A file with this name is taken for that of a chapter, and is that of none.
     Unreadable(String),
     /// The chapter with this number is not there, and a later one is.
     Missing(u32),
     /// The last chapter, whose file has this name, cannot be read.
     Unread(String),
+    /// In its place is a pipe, a link or a folder.
+    NoFile(String),
+    TooLarge(String),
+    /// Its file begins or ends with a byte that no text has.
+    Hollow(String),
     NoMemory,
 }
 
@@ -39,66 +47,53 @@ impl From<io::Error> for FolderFault {
         if error.kind() == ErrorKind::OutOfMemory {
             FolderFault::NoMemory
         } else {
-            FolderFault::File
+            FolderFault::File(error)
         }
     }
 }
 
-/// The greatest length of a chapter's text, in bytes. A full chapter of 512 robots may have a quarter of it.
-const MOST_KEPT_BYTES: usize = 1_073_741_824;
-
-/// The file of the chapter that a fleet goes on from.
-#[derive(Debug, Drop)]
-pub(crate) struct KeptFile {
-    name: String,
-    number: u32,
-    text: Vec<u8>,
+/// Whether a fleet goes on from the last chapter of its folder.
+#[derive(Clone, Copy, Debug, PartialEq, Eq)]
+pub(crate) enum Start {
+    /// It begins anew, in a folder without chapters.
+    Anew,
+    /// It goes on if there is a chapter.
+    Resume,
+    /// It goes on, or is refused.
+    ResumeOnly,
 }
 
-impl KeptFile {
-    /// The same, lent.
-    pub(crate) fn lent(&self) -> KeptText<'_> {
-        KeptText {
-            name: self.name.as_str(),
-            number: self.number,
-            text: &self.text,
+impl Start {
+    /// By the words `--resume` and `--resume-only`.
+    pub(crate) fn of(resume: bool, resume_only: bool) -> Start {
+        if resume_only {
+            Start::ResumeOnly
+        } else if resume {
+            Start::Resume
+        } else {
+            Start::Anew
         }
     }
 }
 
-/// A folder that this fleet alone keeps its chapters in, or none. It holds a lock on a file in the folder: the lock
-/// ends with the process, however that ends.
+/// A folder that this fleet alone keeps its chapters in, or none, until this is dropped.
 #[derive(Drop)]
 pub(crate) struct HeldFolder {
-    lock: Option<(String, File)>,
+    _lock: Option<File>,
 }
 
-/// Whether a chapter has this name.
-fn is_chapter(name: &str) -> bool {
-    name.starts_with("chapter-") && name.ends_with(".json")
-}
-
-/// Whether a folder has chapters.
-fn has_chapters<R: Files + Alloc<A = Global> + Clone + Drop>(
-    rt: &R,
-    folder: &str,
-) -> Result<bool, FolderFault> {
-    for entry in fs::read_dir(rt, folder)? {
-        if is_chapter(entry?.file_name()) {
-            return Ok(true);
-        }
-    }
-    Ok(false)
-}
-
-/// The names of a folder's files.
+/// The names of a folder's files. Those that are no text are left out: no chapter has such a name.
 fn names_in<R: Files + Alloc<A = Global> + Clone + Drop>(
     rt: &R,
     folder: &str,
 ) -> Result<Vec<String>, FolderFault> {
     let mut names = Vec::new(rt.alloc());
     for entry in fs::read_dir(rt, folder)? {
-        let name = String::from_str(rt.alloc(), entry?.file_name())?;
+        let name = match entry {
+            Ok(entry) => String::from_str(rt.alloc(), entry.file_name())?,
+            Err(fault) if fault.kind() == ErrorKind::InvalidFilename => continue,
+            Err(fault) => return Err(FolderFault::from(fault)),
+        };
         if names.push(name).is_err() {
             return Err(FolderFault::NoMemory);
         }
@@ -106,47 +101,29 @@ fn names_in<R: Files + Alloc<A = Global> + Clone + Drop>(
     Ok(names)
 }
 
+/// Whether a chapter has this name.
+fn is_chapter(name: &str) -> bool {
+    name.starts_with("chapter-") && name.ends_with(".json")
+}
+
 /// What is wrong with the names of a folder's files.
 fn fault_of(fault: NamesFault, names: Vec<String>) -> FolderFault {
     match fault {
         NamesFault::Unreadable(at) => match names.into_iter().nth(at) {
             Some(name) => FolderFault::Unreadable(name),
-            None => FolderFault::File,
+            None => FolderFault::NoMemory,
         },
         NamesFault::Missing(number) => FolderFault::Missing(number),
         NamesFault::NoMemory => FolderFault::NoMemory,
     }
 }
 
-/// Everything that the file of a chapter has.
-fn kept_bytes<R: Files + Alloc<A = Global>>(rt: &R, name: &str) -> Result<Vec<u8>, InputFault> {
-    match file_bytes(rt, name, MOST_KEPT_BYTES) {
-        Ok(text) => Ok(text),
-        Err(FileFault::NoMemory) => Err(InputFault::NoMemory),
-        Err(_) => Err(InputFault::File),
-    }
-}
-
-/// The file of a chapter in a folder.
-fn file_of<R: Files + Alloc<A = Global>>(
+/// The last chapter of a folder with these files, if it has chapters.
+fn last_of<R: Files + Alloc<A = Global>>(
     rt: &R,
     folder: &str,
-    number: u32,
-) -> Result<KeptFile, FolderFault> {
-    let name = format!(in rt.alloc(); "{folder}/chapter-{number}.json")?;
-    match kept_bytes(rt, name.as_str()) {
-        Ok(text) => Ok(KeptFile { name, number, text }),
-        Err(InputFault::File) => Err(FolderFault::Unread(name)),
-        Err(InputFault::NoMemory) => Err(FolderFault::NoMemory),
-    }
-}
-
-/// The last chapter of a folder, if it has chapters.
-fn last_of<R: Files + Alloc<A = Global> + Clone + Drop>(
-    rt: &R,
-    folder: &str,
+    names: Vec<String>,
 ) -> Result<Option<KeptFile>, FolderFault> {
-    let names = names_in(rt, folder)?;
     match last_chapter(rt.alloc(), &names) {
         Ok(Some(number)) => Ok(Some(file_of(rt, folder, number)?)),
         Ok(None) => Ok(None),
@@ -154,34 +131,32 @@ fn last_of<R: Files + Alloc<A = Global> + Clone + Drop>(
     }
 }
 
-/// The chapter of a folder from which a fleet goes on, if it is to go on and there is one. A fleet that is not to go on
-/// takes no folder that has chapters.
+/// The chapter of a folder from which a fleet goes on, if it is to go on and there is one. A fleet that begins anew
+/// takes no folder that has chapters, and one that may only go on takes none that has no chapter.
 fn kept_in<R: Files + Alloc<A = Global> + Clone + Drop>(
     rt: &R,
     folder: &str,
-    resume: bool,
+    start: Start,
 ) -> Result<Option<KeptFile>, FolderFault> {
-    if resume {
-        last_of(rt, folder)
-    } else if has_chapters(rt, folder)? {
-        Err(FolderFault::HasChapters)
-    } else {
-        Ok(None)
+    let names = names_in(rt, folder)?;
+    if start == Start::Anew {
+        if names.iter().any(|name| is_chapter(name.as_str())) {
+            return Err(FolderFault::HasChapters);
+        }
+        return Ok(None);
+    }
+    match last_of(rt, folder, names)? {
+        None if start == Start::ResumeOnly => Err(FolderFault::NoChapter),
+        kept => Ok(kept),
     }
 }
 
-/// Locks this file, which is made where it is not there, and writes it.
-fn lock_file<R: Files<File = File>>(rt: &R, name: &str) -> Result<File, FolderFault> {
-    let mut file = OpenOptions::new().create(true).write(true).open(rt, name)?;
-    match file.try_lock() {
-        Ok(()) => {}
-        Err(TryLockError::WouldBlock) => return Err(FolderFault::InUse),
-        Err(TryLockError::Error(_)) => return Err(FolderFault::File),
-    }
-    if write_whole(&mut file, b"a fleet keeps its chapters here\n") {
-        Ok(file)
-    } else {
-        Err(FolderFault::File)
+/// What is held where no folder is named.
+fn without_folder(start: Start) -> Result<(HeldFolder, Option<KeptFile>), FolderFault> {
+    match start {
+        Start::Anew => Ok((HeldFolder { _lock: None }, None)),
+        Start::Resume => Err(FolderFault::NoFolder("--resume")),
+        Start::ResumeOnly => Err(FolderFault::NoFolder("--resume-only")),
     }
 }
 
@@ -190,37 +165,47 @@ fn lock_file<R: Files<File = File>>(rt: &R, name: &str) -> Result<File, FolderFa
 pub(crate) fn hold_folder<R: Files<File = File> + Alloc<A = Global> + Clone + Drop>(
     rt: &R,
     name: Option<&str>,
-    resume: bool,
+    start: Start,
 ) -> Result<(HeldFolder, Option<KeptFile>), FolderFault> {
     let Some(folder) = name else {
-        if resume {
-            return Err(FolderFault::NoFolder);
-        }
-        return Ok((HeldFolder { lock: None }, None));
+        return without_folder(start);
     };
     if folder.is_empty() {
         return Err(FolderFault::NoName);
     }
-    let path = format!(in rt.alloc(); "{folder}/fleet.lock")?;
-    let file = lock_file(rt, path.as_str())?;
-    let held = HeldFolder {
-        lock: Some((path, file)),
-    };
-    match kept_in(rt, folder, resume) {
-        Ok(kept) => Ok((held, kept)),
-        Err(fault) => {
-            held.let_go(rt);
-            Err(fault)
-        }
+    let lock = lock_folder(rt, folder)?;
+    try_folder(rt, folder)?;
+    let kept = kept_in(rt, folder, start)?;
+    Ok((HeldFolder { _lock: Some(lock) }, kept))
+}
+
+/// Says that a fleet begins anew, where it could have gone on.
+pub(crate) fn tell_start<E: Write>(start: Start, kept: &Option<KeptFile>, error: &mut E) {
+    if start != Start::Anew && kept.is_none() {
+        write_whole(error, b"fleet: begins anew\n");
     }
 }
 
-impl HeldFolder {
-    /// Lets other fleets have the folder.
-    pub(crate) fn let_go<R: Files>(self, rt: &R) {
-        if let Some((path, _file)) = &self.lock {
-            let _removed = fs::remove_file(rt, path.as_str());
+/// The line that says why a chapter's file in the folder of this name is refused.
+fn chapter_line(alloc: Global, folder: &str, fault: FolderFault) -> Result<String, AllocError> {
+    match fault {
+        FolderFault::Unreadable(name) => {
+            format!(in alloc; "fleet: file {folder}/{name}: no chapter has this name\n")
         }
+        FolderFault::Missing(number) => format!(in alloc;
+            "fleet: file {folder}/chapter-{number}.json: it is missing, and a later chapter is there\n"
+        ),
+        FolderFault::Unread(name) => format!(in alloc; "fleet: file {name}: it cannot be read\n"),
+        FolderFault::NoFile(name) => {
+            format!(in alloc; "fleet: file {name}: it is a pipe, a link or a folder\n")
+        }
+        FolderFault::TooLarge(name) => {
+            format!(in alloc; "fleet: file {name}: it has more than 1073741824 bytes\n")
+        }
+        FolderFault::Hollow(name) => {
+            format!(in alloc; "fleet: file {name}: its first or last byte is zero\n")
+        }
+        _ => Err(AllocError),
     }
 }
 
@@ -231,31 +216,26 @@ fn line_of(alloc: Global, folder: &str, fault: FolderFault) -> Result<String, Al
             alloc,
             "error: invalid value for '--traces <DIR>'\n",
         ),
-        FolderFault::NoFolder => String::from_str(
-            alloc,
-            "error: '--resume' needs '--traces <DIR>'\n",
-        ),
-        FolderFault::File => format!(in alloc; "fleet: file {folder} cannot be written\n"),
+        FolderFault::NoFolder(word) => {
+            format!(in alloc; "error: '{word}' needs '--traces <DIR>'\n")
+        }
+        FolderFault::File(why) => {
+            format!(in alloc; "fleet: file {folder} cannot be written: {why}\n")
+        }
         FolderFault::InUse => format!(in alloc;
             "fleet: file {folder} is in use by another fleet\n"
         ),
         FolderFault::HasChapters => {
             format!(in alloc; "fleet: file {folder} has chapters of another fleet\n")
         }
-        FolderFault::Unreadable(name) => {
-            format!(in alloc; "fleet: file {folder}/{name}: no chapter has this name\n")
-        }
-        FolderFault::Missing(number) => format!(in alloc;
-            "fleet: file {folder}/chapter-{number}.json: it is missing, and a later chapter is there\n"
-        ),
-        FolderFault::Unread(name) => format!(in alloc; "fleet: file {name}: it cannot be read\n"),
-        FolderFault::NoMemory => Err(AllocError),
+        FolderFault::NoChapter => format!(in alloc; "fleet: file {folder} has no chapter\n"),
+        fault => chapter_line(alloc, folder, fault),
     }
 }
 
 /// Whether a word is wrong, and no file.
 fn is_of_words(fault: &FolderFault) -> bool {
-    matches!(fault, FolderFault::NoName | FolderFault::NoFolder)
+    matches!(fault, FolderFault::NoName | FolderFault::NoFolder(_))
 }
 
 /// Prints why the folder of this name does not take a fleet's chapters. Returns the status.

@@ -2,72 +2,165 @@
 
 ghost use Rattle.std.specs.Prelude.{◌≤◌, IfOk, vec_len};
 
+use crate::chapters::TraceFolder;
 use crate::ends::complain;
-use crate::folder::KeptFile;
+use crate::figures::{Outlet, figures_of};
+use crate::kept_file::KeptFile;
+use crate::streams::Pipe;
 use crate::talk::{lent_texts, texts_of};
-use fleet_lib::{ChapterSink, InputFault, Live, LiveEnds, Pipes, fail, run_live};
-use std::alloc::{Alloc, Global};
+use crate::troubles::Troubles;
+use fleet_lib::{
+    ChapterSink, InputFault, Live, LiveEnds, Pipes, fail, pipe_names, run_live, write_whole,
+};
+use std::alloc::{Alloc, AllocError, Global};
 use std::fs::{File, Files, OpenOptions};
-use std::io::{Read, Write};
+use std::io::{self, Read, Write};
+use std::os::unix::fs::{FileTypeExt, MetadataExt};
 use std::sync::Wait;
 use std::thread::Threads;
 use std::time::Clock;
 
-/// Opens a named pipe for reading and writing. So this does not wait for a client, and clients may come and go.
-fn open_pipe<R: Files<File = File>>(rt: &R, name: &str) -> Option<File> {
-    match OpenOptions::new().read(true).write(true).open(rt, name) {
-        Ok(file) => Some(file),
-        Err(_) => None,
+/// Why the pipes of clients cannot be used.
+#[derive(Drop)]
+enum PipeFault<'a> {
+    /// A word does not name two.
+    NoPipes,
+    /// One is named twice.
+    Twice,
+    /// The one with this name cannot be opened.
+    File(&'a str, io::Error),
+    NoMemory,
+}
+
+impl<'a> From<AllocError> for PipeFault<'a> {
+    fn from(_error: AllocError) -> PipeFault<'a> {
+        PipeFault::NoMemory
     }
 }
 
-/// The pipes that a word names, with a comma between them. `None` if there is no comma, or one cannot be opened.
-fn pipes_named<R: Files<File = File>>(rt: &R, word: &str) -> Option<Pipes<File, File>> {
-    let (input, output) = word.split_once(',')?;
-    let input = open_pipe(rt, input)?;
-    let output = open_pipe(rt, output)?;
-    Some(Pipes { input, output })
+/// The named pipes that were opened, each with its file's device and number.
+#[derive(Drop)]
+struct Opened {
+    seen: Vec<(u64, u64)>,
 }
 
+impl Opened {
+    /// Opens a named pipe for reading and writing. So this does not wait for a client, and clients may come and go.
+    fn open<'a, R: Files<File = File>>(
+        &mut self,
+        rt: &R,
+        name: &'a str,
+    ) -> Result<File, PipeFault<'a>> {
+        let opened = OpenOptions::new().read(true).write(true).open(rt, name);
+        let (file, found) = match opened.and_then(|file| Ok((file.metadata()?, file))) {
+            Ok((found, file)) => (file, found),
+            Err(fault) => return Err(PipeFault::File(name, fault)),
+        };
+        if found.is_file() {
+            return Err(PipeFault::File(name, io::Error::other("it is no pipe")));
+        }
+        if found.file_type().is_fifo() {
+            let place = (found.dev(), found.ino());
+            if self.seen.contains(&place) {
+                return Err(PipeFault::Twice);
+            }
+            if self.seen.push(place).is_err() {
+                return Err(PipeFault::NoMemory);
+            }
+        }
+        Ok(file)
+    }
+
+    /// Opens a named pipe, which has its name and the error output.
+    fn open_named<'a, R: Files<File = File> + Alloc<A = Global> + Copy, E: Write + Drop>(
+        &mut self,
+        rt: &R,
+        name: &'a str,
+        error: E,
+    ) -> Result<Pipe<R, E>, PipeFault<'a>> {
+        let file = self.open(rt, name)?;
+        let name = String::from_str(rt.alloc(), name)?;
+        Ok(Pipe::new(*rt, file, name, error))
+    }
+}
+
+/// The pipes of a client, and of all clients.
+type ClientPipes<R, E> = Pipes<Pipe<R, E>, Pipe<R, E>>;
+
 /// The pipes of all clients that have some.
-fn pipes_of<R: Files<File = File> + Alloc<A = Global>>(
+fn pipes_of<'a, R: Files<File = File> + Alloc<A = Global> + Copy + Drop, E: Write + Copy + Drop>(
     rt: &R,
-    words: &[String],
-) -> Result<Vec<Pipes<File, File>>, InputFault> {
+    words: &'a [String],
+    error: E,
+) -> Result<Vec<ClientPipes<R, E>>, PipeFault<'a>> {
+    let mut opened = Opened {
+        seen: Vec::new(rt.alloc()),
+    };
     let mut all = Vec::new(rt.alloc());
     for word in words {
-        let Some(pipes) = pipes_named(rt, word.as_str()) else {
-            return Err(InputFault::File);
+        let Some((input, output)) = pipe_names(word.as_str()) else {
+            return Err(PipeFault::NoPipes);
         };
-        if all.push(pipes).is_err() {
-            return Err(InputFault::NoMemory);
+        let input = opened.open_named(rt, input, error)?;
+        let output = opened.open_named(rt, output, error)?;
+        if all.push(Pipes { input, output }).is_err() {
+            return Err(PipeFault::NoMemory);
         }
     }
     Ok(all)
 }
 
-/// The texts of the map and of the script, and the pipes, that the words name. If something fails, it is said, and the
-/// error is the status.
-fn opened<R: Files<File = File> + Alloc<A = Global>, E: Write>(
+/// The line that says why pipes cannot be used, and the status.
+fn line_of(alloc: Global, fault: PipeFault<'_>) -> Result<(String, u8), AllocError> {
+    match fault {
+        PipeFault::NoPipes => Ok((
+            String::from_str(alloc, "error: invalid value for '--client <IN,OUT>'\n")?,
+            2,
+        )),
+        PipeFault::Twice => Ok((
+            String::from_str(
+                alloc,
+                "error: a pipe is named twice for '--client <IN,OUT>'\n",
+            )?,
+            2,
+        )),
+        PipeFault::File(name, why) => Ok((
+            format!(in alloc; "fleet: file {name} cannot be opened: {why}\n")?,
+            3,
+        )),
+        PipeFault::NoMemory => Err(AllocError),
+    }
+}
+
+/// Prints why pipes cannot be used. Returns the status.
+fn complain_of_pipes<E: Write>(alloc: Global, fault: PipeFault<'_>, error: &mut E) -> u8 {
+    match line_of(alloc, fault) {
+        Ok((line, status)) => {
+            write_whole(error, line.as_bytes());
+            status
+        }
+        Err(AllocError) => fail(InputFault::NoMemory, error),
+    }
+}
+
+/// The texts of the map and of the script that the words name. If something fails, it is said, and the error is the
+/// status.
+fn texts_for<R: Files<File = File> + Alloc<A = Global>, E: Write>(
     rt: &R,
     live: &Live,
     error: &mut E,
-) -> Result<(Vec<u8>, Vec<u8>, Vec<Pipes<File, File>>), u8>
-    ensures { IfOk result (λ opened. vec_len opened.1 ≤ 16777216) }
+) -> Result<(Vec<u8>, Vec<u8>), u8>
+    ensures { IfOk result (λ texts. vec_len texts.1 ≤ 16777216) }
 {
-    let (map, script) = match texts_of(rt, live.map.as_str(), &live.script) {
-        Ok(texts) => texts,
-        Err(fault) => return Err(complain(rt, fault, error)),
-    };
-    match pipes_of(rt, &live.pipes) {
-        Ok(pipes) => Ok((map, script, pipes)),
-        Err(fault) => Err(fail(fault, error)),
+    match texts_of(rt, live.map.as_str(), &live.script) {
+        Ok(texts) => Ok(texts),
+        Err(fault) => Err(complain(rt, fault, error)),
     }
 }
 
 /// Keeps a fleet in real time, or on demand, which goes on from a chapter if one is given. Returns the status, as of
-/// `run_live`, or 3 where a file failed.
-pub(crate) fn hold_live<
+/// `run_live`, or 3 where a file failed. What is wrong with the words for pipes comes first.
+fn hold_live<
     R: Files<File = File>
         + Alloc<A = Global>
         + Clock
@@ -81,19 +174,31 @@ pub(crate) fn hold_live<
     I: Read + Send + Drop + 'static,
     W: Write + Send + Drop + 'static,
     F: Write + Send + Drop + 'static,
-    E: Write,
+    E: Write + Copy + Send + Drop + 'static,
+    G: Write,
     S: ChapterSink + Send + Drop,
 >(
     rt: &R,
     (live, kept): (&Live, &Option<KeptFile>),
     (input, output): (I, W),
     (counts, figures): (F, Option<F>),
-    error: &mut E,
+    (error, said): (E, &mut G),
     sink: S,
 ) -> u8 {
-    let (map, script, pipes) = match opened(rt, live, error) {
-        Ok(opened) => opened,
+    if !live
+        .pipes
+        .iter()
+        .all(|word| pipe_names(word.as_str()).is_some())
+    {
+        return complain_of_pipes(rt.alloc(), PipeFault::NoPipes, said);
+    }
+    let (map, script) = match texts_for(rt, live, said) {
+        Ok(texts) => texts,
         Err(status) => return status,
+    };
+    let pipes = match pipes_of(rt, &live.pipes, error) {
+        Ok(pipes) => pipes,
+        Err(fault) => return complain_of_pipes(rt.alloc(), fault, said),
     };
     let ends = LiveEnds {
         input,
@@ -103,5 +208,43 @@ pub(crate) fn hold_live<
         figures,
         sink,
     };
-    run_live(rt, lent_texts(&map, &script, kept), live, ends, error)
+    run_live(rt, lent_texts(&map, &script, kept), live, ends, said)
+}
+
+/// Keeps the fleet of these words, which goes on from a chapter if one is given, with its chapters in the folder that
+/// they name, if they name one. Returns the status.
+pub(crate) fn live_on<
+    R: Files<File = File>
+        + Alloc<A = Global>
+        + Clock
+        + Threads
+        + Sync
+        + Wait
+        + Copy
+        + Send
+        + Drop
+        + 'static,
+    I: Read + Send + Drop + 'static,
+    W: Write + Send + Drop + 'static,
+    E: Write + Copy + Send + Drop + 'static,
+>(
+    rt: &R,
+    (live, kept): (&Live, &Option<KeptFile>),
+    talk: (I, W),
+    error: E,
+) -> Result<u8, AllocError> {
+    let (alloc, mut error) = (rt.alloc(), error);
+    let name = live.traces.as_deref();
+    let troubles = Troubles::new(alloc)?;
+    let talk = troubles.streams(rt, talk)?;
+    let sink = TraceFolder::new(rt, name, troubles.folder()?, error);
+    let figures = match figures_of(rt, &live.metrics, &mut error) {
+        Ok(figures) => figures,
+        Err(status) => return Ok(status),
+    };
+    let told = (Outlet::Error(error), figures);
+    let mut said = Vec::new(alloc);
+    let status = hold_live(rt, (live, kept), talk, told, (error, &mut said), sink);
+    troubles.tell(alloc, (status, &said), name.unwrap_or(""), &mut error);
+    Ok(status)
 }

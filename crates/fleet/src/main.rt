@@ -13,24 +13,29 @@ mod descriptors;
 mod ends;
 mod explain;
 mod figures;
+mod files;
 mod folder;
 mod inputs;
+mod kept_file;
 mod live;
+mod lock;
+mod piped;
 mod stats;
+mod streams;
 mod talk;
+mod troubles;
 mod view;
 
-use chapters::TraceFolder;
 use check::run_check;
 use convert::run_convert;
 use descriptors::are_open;
 use explain::run_explain;
-use figures::{Outlet, figures_of};
 use fleet_lib::{InputFault, Job, WordFault, fail, parse_words, write_whole};
-use folder::{complain_of_folder, hold_folder};
-use live::hold_live;
+use folder::{Start, complain_of_folder, hold_folder, tell_start};
+use live::live_on;
+use piped::Piped;
 use stats::run_stats;
-use std::alloc::{Alloc, Global};
+use std::alloc::{Alloc, AllocError, Global};
 use std::env::{self, Env};
 use std::fs::Files;
 use std::io::{self, ErrorKind, Write};
@@ -55,8 +60,12 @@ fn fail_words<E: Write>(fault: &io::Error, error: &mut E) -> u8 {
     2
 }
 
-/// The job that the program's words name, or the status where they name none.
-fn job_given<E: Write>(rt: &(impl Env + Alloc<A = Global>), error: &mut E) -> Result<Job, u8> {
+/// The job that the program's words name, or the status where they name none. Help that they ask for is printed.
+fn job_given<W: Write, E: Write>(
+    rt: &(impl Env + Alloc<A = Global>),
+    output: &mut W,
+    error: &mut E,
+) -> Result<Job, u8> {
     let words = match words_given(rt) {
         Ok(words) => words,
         Err(fault) => return Err(fail_words(&fault, error)),
@@ -64,6 +73,13 @@ fn job_given<E: Write>(rt: &(impl Env + Alloc<A = Global>), error: &mut E) -> Re
     match parse_words(rt.alloc(), &words) {
         Ok(job) => Ok(job),
         Err(WordFault::NoMemory) => Err(fail(InputFault::NoMemory, error)),
+        Err(WordFault::Help(text)) => {
+            if write_whole(output, text.as_bytes()) {
+                Err(0)
+            } else {
+                Err(fail(InputFault::File, error))
+            }
+        }
         Err(WordFault::Words(text)) => {
             write_whole(error, text.as_bytes());
             Err(2)
@@ -72,11 +88,12 @@ fn job_given<E: Write>(rt: &(impl Env + Alloc<A = Global>), error: &mut E) -> Re
 }
 
 /// The job that can be done, or the status where none can: a conversation needs its input and its output.
-fn job_open<E: Write>(
+fn job_open<W: Write, E: Write>(
     rt: &(impl Env + Files + Alloc<A = Global>),
+    output: &mut W,
     error: &mut E,
 ) -> Result<Job, u8> {
-    let job = job_given(rt, error)?;
+    let job = job_given(rt, output, error)?;
     let talks = matches!(&job, Job::Talk(_) | Job::Live(_));
     if talks && !are_open(rt, error) {
         return Err(3);
@@ -85,30 +102,28 @@ fn job_open<E: Write>(
 }
 
 fn main(rt: HostRuntime) -> ExitCode {
-    let mut output = rt.stdout();
+    let mut output = Piped::new(rt.stdout());
     let mut error = rt.stderr();
-    let status = match job_open(&rt, &mut error) {
+    let status = match job_open(&rt, &mut output, &mut error) {
         Ok(Job::View(view)) => run_view(&rt, &view, &mut output, &mut error),
         Ok(Job::Check(check)) => run_check(&rt, &check, &mut output, &mut error),
-        Ok(Job::Talk(talk)) => talk_in_folder(&rt, &talk, (rt.stdin(), output), &mut error),
+        // Who holds a conversation is told that its answers are not read.
+        Ok(Job::Talk(talk)) => talk_in_folder(&rt, &talk, (rt.stdin(), rt.stdout()), &mut error),
         Ok(Job::Convert(convert)) => run_convert(&rt, &convert, &mut output, &mut error),
         Ok(Job::Explain(explain)) => run_explain(&rt, &explain, &mut output, &mut error),
         Ok(Job::Stats(stats)) => run_stats(&rt, &stats, &mut output, &mut error),
         Ok(Job::Live(live)) => {
             let name = live.traces.as_deref();
-            match hold_folder(&rt, name, live.resume) {
+            let start = Start::of(live.resume, live.resume_only);
+            match hold_folder(&rt, name, start) {
                 Ok((folder, kept)) => {
-                    // Made here, where it is known of the runtime that threads may share it.
-                    let sink = TraceFolder { rt: &rt, name };
-                    let status = match figures_of(&rt, &live.metrics, &mut error) {
-                        Ok(figures) => {
-                            let talk = (rt.stdin(), output);
-                            let told = (Outlet::Error(error), figures);
-                            hold_live(&rt, (&live, &kept), talk, told, &mut error, sink)
-                        }
-                        Err(status) => status,
+                    tell_start(start, &kept, &mut error);
+                    let streams = (rt.stdin(), rt.stdout());
+                    let status = match live_on(&rt, (&live, &kept), streams, error) {
+                        Ok(status) => status,
+                        Err(AllocError) => fail(InputFault::NoMemory, &mut error),
                     };
-                    folder.let_go(&rt);
+                    drop(folder);
                     status
                 }
                 Err(fault) => complain_of_folder(&rt, fault, name, &mut error),

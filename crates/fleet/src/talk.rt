@@ -4,11 +4,15 @@ ghost use Rattle.std.specs.Prelude.{◌≡◌, ◌≤◌, vec_len, IfOk};
 
 use crate::chapters::TraceFolder;
 use crate::ends::{FileFault, MOST_MAP_BYTES, complain, file_bytes};
-use crate::folder::{KeptFile, complain_of_folder, hold_folder};
+use crate::folder::{Start, complain_of_folder, hold_folder, tell_start};
+use crate::kept_file::KeptFile;
+use crate::troubles::Troubles;
 use fleet_lib::{ChapterSink, Ends, InputFault, Settings, Talk, TalkTexts, fail, run_talk};
-use std::alloc::{Alloc, Global};
+use std::alloc::{Alloc, AllocError, Global};
 use std::fs::{File, Files};
 use std::io::{BufReader, Read, Write};
+use std::sync::Wait;
+use std::time::Clock;
 
 /// The greatest number of bytes that are read at once.
 const PIECE: usize = 65_536;
@@ -96,20 +100,47 @@ fn hold_talk<
     run_talk(rt, texts, settings, &mut ends, error)
 }
 
+/// Holds the conversation of these words, whose fleet goes on from a chapter if one is given. Returns the status.
+fn talk_on<
+    R: Files<File = File> + Alloc<A = Global> + Clock + Wait + Copy + Drop,
+    I: Read + Drop,
+    W: Write + Drop,
+    E: Write + Copy + Drop,
+>(
+    rt: &R,
+    (talk, kept): (&Talk, &Option<KeptFile>),
+    ends: (I, W),
+    error: &mut E,
+) -> Result<u8, AllocError> {
+    let alloc = rt.alloc();
+    let name = talk.traces.as_deref();
+    let troubles = Troubles::new(alloc)?;
+    let ends = troubles.streams(rt, ends)?;
+    let sink = TraceFolder::new(rt, name, troubles.folder()?, *error);
+    let mut said = Vec::new(alloc);
+    let status = hold_talk(rt, talk, kept, ends, &mut said, sink);
+    troubles.tell(alloc, (status, &said), name.unwrap_or(""), error);
+    Ok(status)
+}
+
 /// Holds the conversation of these words, and keeps its chapters in the folder that they name, if they name one.
 /// Returns the status.
 pub(crate) fn talk_in_folder<
-    R: Files<File = File> + Alloc<A = Global> + Clone + Drop,
+    R: Files<File = File> + Alloc<A = Global> + Clock + Wait + Copy + Drop,
     I: Read + Drop,
     W: Write + Drop,
-    E: Write,
+    E: Write + Copy + Drop,
 >(rt: &R, talk: &Talk, ends: (I, W), error: &mut E) -> u8 {
     let name = talk.traces.as_deref();
-    match hold_folder(rt, name, talk.resume) {
+    let start = Start::of(talk.resume, talk.resume_only);
+    match hold_folder(rt, name, start) {
         Ok((folder, kept)) => {
-            let sink = TraceFolder { rt, name };
-            let status = hold_talk(rt, talk, &kept, ends, error, sink);
-            folder.let_go(rt);
+            tell_start(start, &kept, error);
+            let status = match talk_on(rt, (talk, &kept), ends, error) {
+                Ok(status) => status,
+                Err(AllocError) => fail(InputFault::NoMemory, error),
+            };
+            drop(folder);
             status
         }
         Err(fault) => complain_of_folder(rt, fault, name, error),

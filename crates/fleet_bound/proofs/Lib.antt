@@ -17,3 +17,4 @@ pub mod Longest
 pub mod Queues
 pub mod TickCounts
 pub mod Limits
+pub mod Roomy

@@ -5,3 +5,4 @@ pub mod Bound
 pub mod Onward
 pub mod Arriving
 pub mod Idle
+pub mod Roomy

@@ -4,8 +4,10 @@
 ghost use Rattle.std.specs.Prelude.{◌≡◌, ℕ, ◌-◌, ◌<◌, ◌≤◌, List, [], Option, Some, max};
 ghost use Rattle.fleet_book.specs.declared.order.Order.{Order};
 ghost use Rattle.fleet_book.specs.declared.verdict.Verdict.{Verdict};
-ghost use Rattle.fleet_grid.specs.Floor.{Floor};
+ghost use Rattle.fleet_grid.specs.Floor.{Floor, IsNeighbour};
 ghost use Rattle.fleet_grid.specs.Counts.{floor_count};
+ghost use Rattle.fleet_grid.specs.Walk.{IsBridgeless};
+ghost use Rattle.fleet_hooks.specs.declared.law.TieLaw.{TieLaw};
 ghost use Rattle.fleet_history.specs.declared.history.Arrival.{Arrival};
 ghost use Rattle.fleet_history.specs.declared.history.Bye.{Bye};
 ghost use Rattle.fleet_history.specs.declared.history.Entry.{Entry};
@@ -16,12 +18,13 @@ ghost use Rattle.fleet_history.specs.Laws.{EachTick};
 ghost use Rattle.fleet_history.specs.Legal.{IsLegal, IsInOrder, Fits};
 ghost use Rattle.fleet_history.specs.Next.{next_opening};
 ghost use Rattle.fleet_history.specs.Waits.{wait};
-ghost use Rattle.fleet_planner.specs.Planned.{IsAdvancingTick};
+ghost use Rattle.fleet_planner.specs.Planned.{IsPlanned, IsAdvancingTick};
 ghost use Rattle.fleet_bound.specs.Arriving.{ErrandsArrive, IsIdleWithin};
 ghost use Rattle.fleet_bound.specs.Bound.{KeepsBound, WaitsAreBounded};
 ghost use Rattle.fleet_bound.specs.Idle.{idle_ticks, longest_after};
 ghost use Rattle.fleet_bound.specs.Onward.{onward, GoesOn};
 ghost use Rattle.fleet_bound.specs.Reach.{IsReach, reach};
+ghost use Rattle.fleet_bound.specs.Roomy.{AreRoomy, EldestIsRoomy, HasBound};
 
 /// The reach of a map is 1, or the greatest distance of two of its cells. It is below the number of floor cells, where
 /// there are two or more.
@@ -72,4 +75,24 @@ pub fn errands_arrive<A>()
 /// A fleet without new orders is idle after the number of ticks that `idle_within` returns.
 pub fn fleet_gets_idle<A>()
     ensures { (m : Floor) (h : History A) → IsIdleWithin m h (idle_ticks (longest_after h) (robots h) (floor_count m)) }
+{}
+
+/// A planned tick is advancing on every map, with bridges or without, if the front errand of the eldest robot goes to a
+/// cell that is roomy for all robots: each side of each bridge that has the cell has as many cells as there are robots.
+/// So each tick of a history is advancing if all its errands go to such cells, and it goes on by advancing ticks while
+/// all new ones do. With that the other laws of this file hold of it.
+///
+/// On a map without bridges every cell is roomy, so what worlds promise of roomy histories they promise of all there. The
+/// next chapter begins with errands of this one, so it begins roomy.
+pub fn roomy_ticks_advance<A>()
+    ensures tick { (m : Floor) (ties : List TieLaw) (h : History A) (to : List ℕ) → IsLegal m h →
+        IsPlanned m ties h to → EldestIsRoomy m h → IsAdvancingTick m h to }
+    ensures eldest { (m : Floor) (h : History A) → AreRoomy m h → EldestIsRoomy m h }
+    ensures all { (m : Floor) (ties : List TieLaw) (h : History A) → IsLegal m h →
+        EachTick (IsPlanned m ties) h → AreRoomy m h → EachTick (IsAdvancingTick m) h }
+    ensures onward { (m : Floor) (ties : List TieLaw) (h : History A) (more : List (Entry A)) → IsLegal m (onward h more) →
+        EachTick (IsPlanned m ties) (onward h more) → AreRoomy m (onward h more) → GoesOn m h more }
+    ensures bridgeless { (m : Floor) (h : History A) → IsBridgeless (IsNeighbour m) → AreRoomy m h }
+    ensures bound { (m : Floor) (h : History A) → IsBridgeless (IsNeighbour m) → HasBound m h }
+    ensures next { (m : Floor) (h : History A) → AreRoomy m h → AreRoomy m (start (next_opening h)) }
 {}

@@ -42,7 +42,7 @@ module _ (Near : ℕ → ℕ → Type 0) (n : ℕ) (up number end top : ℕ → 
       ]
 
   -- the numbers of a subtree
-  under_within : (v : ℕ) (k x : ℕ) → x < n → climb up k x ≡ v → (number v ≤ number x) × (number x < end v)
+  pub under_within : (v : ℕ) (k x : ℕ) → x < n → climb up k x ≡ v → (number v ≤ number x) × (number x < end v)
   under_within v zero x small e =
       let low : number x ≡ number v = ap number e in
       let high : end x ≡ end v = ap end e in
@@ -98,7 +98,7 @@ module _ (Near : ℕ → ℕ → Type 0) (n : ℕ) (up number end top : ℕ → 
           omega arith);
     }
 
-    from_under : (k x : ℕ) → x < n → climb up k x ≡ v → AreJoined (Besides Near v (up v)) x v
+    pub from_under : (k x : ℕ) → x < n → climb up k x ≡ v → AreJoined (Besides Near v (up v)) x v
     from_under zero x small_x e = joined_same _ x v e
     from_under (suc k) x small_x e =
         elim (cases_eq x v) [
@@ -109,7 +109,7 @@ module _ (Near : ℕ → ℕ → Type 0) (n : ℕ) (up number end top : ℕ → 
           ]
         ]
 
-    out_to_top : (y : ℕ) → y < n → (IsUnder up v y → ⊥) → AreJoined (Besides Near v (up v)) y (top y)
+    pub out_to_top : (y : ℕ) → y < n → (IsUnder up v y → ⊥) → AreJoined (Besides Near v (up v)) y (top y)
     out_to_top y small_y out =
         to_top (Besides Near v (up v)) (λ (z : ℕ). IsUnder up v z → ⊥)
         (λ z small_z p ne. (step_up z small_z (λ e. p (under_same up v z e)) ne, λ u. p (under_up up v z u)))

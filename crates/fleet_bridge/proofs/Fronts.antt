@@ -24,7 +24,7 @@ count_more seen cell inside not_yet =
     let f : cond (get_or seen cell false) 1 0 ≡ 0 = ap {B = ℕ} (λ (s : Bool). cond s 1 0) not_yet in
     omega (arith, e, f)
 
-marked_inside : (seen : List Bool) (c : ℕ) → IsMarked seen c → c < length seen
+pub marked_inside : (seen : List Bool) (c : ℕ) → IsMarked seen c → c < length seen
 marked_inside [] c m = absurd cc
 marked_inside (x ∷ xs) zero m = omega arith
 marked_inside (x ∷ xs) (suc c) m = omega (arith, marked_inside xs c m)

@@ -1,9 +1,9 @@
 -- Walks go on, and back, as those of the floor graph do, and stay in a set that no step leaves.
 use Rattle.std.proofs.Common.{◌≡◌, ℕ, List, [], ◌∷◌, subst}
-use Rattle.fleet_grid.specs.Walk.{Walks, Besides, AreJoined}
+use Rattle.fleet_grid.specs.Walk.{Walks, AreJoined}
 use Rattle.fleet_grid.proofs.Walks.{joined_by_edge}
 use Rattle.fleet_grid.proofs.Walks as walks
-pub use Rattle.fleet_grid.proofs.Walks.{joined_on, joined_back}
+pub use Rattle.fleet_grid.proofs.Walks.{joined_on, joined_back, besides_back}
 
 pub joined_same : (R : ℕ → ℕ → Type 0) (a b : ℕ) → a ≡ b → AreJoined R a b
 joined_same R a b e = subst (AreJoined R a) e (walks.joined_same R a)
@@ -18,6 +18,3 @@ walks_inside R K on a b (x ∷ xs) p k = walks_inside R K on x b xs p.1 (on a x 
 
 pub joined_inside : (R : ℕ → ℕ → Type 0) (K : ℕ → Type 0) → ((x y : ℕ) → R x y → K x → K y) → (a b : ℕ) → AreJoined R a b → K a → K b
 joined_inside R K on a b j k = walks_inside R K on a b j.steps j.walk k
-
-pub besides_back : (Near : ℕ → ℕ → Type 0) → ((x y : ℕ) → Near x y → Near y x) → (a b x y : ℕ) → Besides Near a b x y → Besides Near a b y x
-besides_back Near turn a b x y r = record { near = turn x y r.near; there = λ p q. r.back q p; back = λ p q. r.there q p }

@@ -62,12 +62,16 @@ round_up m t a b tree edge e it =
     (crossed (IsNeighbour m) (length m.letters) (slice_index t.up.items) (slice_index t.number.items) (slice_index t.end.items) (slice_index t.top.items)
     (near_turn m) (near_bound m) tree.fits a (floor_inside m a edge.1.from) child it)
 
-walks_turned : (Near : ℕ → ℕ → Type 0) (a b : ℕ) (x y : ℕ) → Besides Near b a x y → Besides Near a b x y
+pub walks_turned : (Near : ℕ → ℕ → Type 0) (a b : ℕ) (x y : ℕ) → Besides Near b a x y → Besides Near a b x y
 walks_turned Near a b x y r = record { near = r.near; there = r.back; back = r.there }
 
-walks_map : (R S : ℕ → ℕ → Type 0) → ((x y : ℕ) → R x y → S x y) → (a b : ℕ) (xs : List ℕ) → Walks R a xs b → Walks S a xs b
+pub walks_map : (R S : ℕ → ℕ → Type 0) → ((x y : ℕ) → R x y → S x y) → (a b : ℕ) (xs : List ℕ) → Walks R a xs b → Walks S a xs b
 walks_map R S f a b [] w = w
 walks_map R S f a b (x ∷ xs) w = (f a x w.0, walks_map R S f x b xs w.1)
+
+-- an edge left out is left out in either direction
+pub joined_other : (m : Floor) (a b x y : ℕ) → AreJoined (NearWithout m a b) x y → AreJoined (NearWithout m b a) x y
+joined_other m a b x y j = record { steps = j.steps; walk = walks_map (NearWithout m a b) (NearWithout m b a) (walks_turned (IsNeighbour m) b a) x y j.steps j.walk }
 
 pub joined_turned : (m : Floor) (a b : ℕ) → AreJoined (NearWithout m b a) b a → AreJoined (NearWithout m a b) a b
 joined_turned m a b j =

@@ -1,6 +1,8 @@
 -- What only proofs and private functions use.
+pub mod Capped
 pub mod First
 pub mod Places
+pub mod Preorder
 pub mod Search
 pub mod Sides
 pub mod Spanning

@@ -76,7 +76,7 @@ fn leaves_from<A: Allocator + Copy, B: Allocator + Copy>(
 }
 
 /// Whether the tree shows a walk around the edge of the cell and its parent.
-fn is_crossed<A: Allocator + Copy, B: Allocator + Copy>(
+pub(crate) fn is_crossed<A: Allocator + Copy, B: Allocator + Copy>(
     sides: &Sides<'_, B>,
     tree: &Tree<A>,
     cell: u32,
@@ -197,7 +197,7 @@ fn first_by_sides<A: Allocator + Copy, B: Allocator + Copy>(
 ) -> Result<Option<(u32, u32)>, AllocError>
     ensures { IfOk result (λ found. MatchOption found (IsBridgeless (IsNeighbour sides.now)) (λ it. IsFirstBridge (IsNeighbour sides.now) it.0 it.1)) }
 {
-    let (tree, is_sound) = spanning_tree(alloc, sides)?;
+    let (tree, is_sound) = spanning_tree(alloc, sides, &Vec::new(alloc))?;
     first_by(alloc, sides, &tree, is_sound)
 }
 

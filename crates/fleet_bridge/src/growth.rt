@@ -122,27 +122,36 @@ fn place_part<A: Allocator + Copy, B: Allocator + Copy>(
     }
 }
 
-/// Places each part below its first cell.
+/// The root that a part gets whose first cell is given: that cell, where the list has none.
+#[inline(always)]
+fn root_of<A: Allocator + Copy>(roots: &Vec<u32, A>, first: u32) -> u32 {
+    let at = first as usize;
+    if at < roots.len() { roots[at] } else { first }
+}
+
+/// Places each part below its root.
 fn place_parts<A: Allocator + Copy, B: Allocator + Copy>(
     sides: &Sides<'_, B>,
     growth: &mut Growth<A>,
+    roots: &Vec<u32, A>,
     count: u32,
 ) {
-    for root in 0..count {
-        if sides.grid().is_floor(root) && growth.is_unplaced(root) {
-            place_part(sides, growth, count, root);
+    for first in 0..count {
+        if sides.grid().is_floor(first) && growth.is_unplaced(first) {
+            place_part(sides, growth, count, root_of(roots, first));
         }
     }
 }
 
-/// All cells placed, each part below its first cell.
+/// All cells placed, each part below the root at its first cell's place in `roots`, or below its first cell.
 pub(crate) fn place_all<A: Allocator + Copy, B: Allocator + Copy>(
     alloc: A,
     sides: &Sides<'_, B>,
+    roots: &Vec<u32, A>,
     count: u32,
 ) -> Result<Growth<A>, AllocError> {
     let mut growth = Growth::new(alloc, count)?;
-    place_parts(sides, &mut growth, count);
+    place_parts(sides, &mut growth, roots, count);
     Ok(growth)
 }
 

@@ -7,7 +7,7 @@ use crate::growth::Growth;
 use crate::numbers::{own_numbers, read, write};
 use crate::sides::Sides;
 use fleet_grid::Dir;
-use std::alloc::{AllocError, Allocator};
+use std::alloc::{AllocError, Allocator, Global};
 
 /// The number of the neighbour in a direction, if the edge to it is off the tree.
 #[inline(always)]
@@ -96,7 +96,14 @@ fn reaches<A: Allocator + Copy, B: Allocator + Copy>(
     Ok(far)
 }
 
-/// For each cell one of its subtree that reaches the least number.
+/// For each cell the least number that its subtree reaches, and one of the subtree's cells that reaches it.
+#[derive(Drop)]
+pub(crate) struct Reached<A: Allocator + Copy = Global> {
+    pub(crate) far: Vec<u32, A>,
+    pub(crate) inner: Vec<u32, A>,
+}
+
+/// How far each subtree reaches.
 #[tactic(auto, using(crate::proofs::Inner::under_own))]
 pub(crate) fn furthest<A: Allocator + Copy, B: Allocator + Copy>(
     alloc: A,
@@ -104,11 +111,11 @@ pub(crate) fn furthest<A: Allocator + Copy, B: Allocator + Copy>(
     growth: &Growth<A>,
     number: &Vec<u32, A>,
     count: u32,
-) -> Result<Vec<u32, A>, AllocError>
-    ensures { IfOk result (λ inner. AreUnder growth.now.up.items count inner.items) }
+) -> Result<Reached<A>, AllocError>
+    ensures { IfOk result (λ reached. AreUnder growth.now.up.items count reached.inner.items) }
 {
     let mut far = reaches(alloc, sides, &growth.up, number, count)?;
     let mut inner = own_numbers(alloc, count)?;
     hand_all_up(growth, &mut far, &mut inner, count);
-    Ok(inner)
+    Ok(Reached { far, inner })
 }

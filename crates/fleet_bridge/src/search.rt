@@ -119,7 +119,7 @@ fn spread<A: Allocator + Copy, B: Allocator + Copy>(
 }
 
 /// The cells that a walk from `from` reaches without crossing the edge.
-fn search<A: Allocator + Copy, B: Allocator + Copy>(
+pub(crate) fn search<A: Allocator + Copy, B: Allocator + Copy>(
     alloc: A,
     grid: &Grid<B>,
     from: u32,

@@ -10,21 +10,23 @@ ghost use Rattle.fleet_bridge.specs.inside.Spanning.{IsFitIn, IsSpanning};
 
 use crate::growth::{Growth, Numbers, numbers_of, place_all};
 use crate::numbers::read;
-use crate::reach::furthest;
+use crate::reach::{Reached, furthest};
 use crate::sides::Sides;
 use fleet_grid::Dir;
 use std::alloc::{AllocError, Allocator, Global};
 
-/// For each cell: its parent (itself, where it has none), the first cell of its part, its number in preorder, the
-/// number after those of its subtree, and the cell of its subtree from which an edge off the tree reaches the least
-/// number.
+/// For each cell: its parent (itself, where it has none), the root of its part, its number in preorder, the number after
+/// those of its subtree, the least number that an edge off the tree reaches from its subtree, and a cell of the subtree
+/// that reaches it. And the floor cells in preorder.
 #[derive(Drop)]
 pub(crate) struct Tree<A: Allocator + Copy = Global> {
     pub(crate) up: Vec<u32, A>,
     pub(crate) top: Vec<u32, A>,
     pub(crate) number: Vec<u32, A>,
     pub(crate) end: Vec<u32, A>,
+    pub(crate) far: Vec<u32, A>,
     pub(crate) low: Vec<u32, A>,
+    pub(crate) order: Vec<u32, A>,
 }
 
 /// Whether the edge to the neighbour in a direction has one top.
@@ -123,41 +125,46 @@ fn are_fit<A: Allocator + Copy, B: Allocator + Copy>(
     true
 }
 
-/// The tree, before its check.
+/// The tree with these roots, before its check.
 fn tree_of<A: Allocator + Copy, B: Allocator + Copy>(
     alloc: A,
     sides: &Sides<'_, B>,
+    roots: &Vec<u32, A>,
     count: u32,
 ) -> Result<Tree<A>, AllocError>
     ensures { IfOk result (λ tree. AreUnder tree.up.items count tree.low.items) }
 {
-    let growth = place_all(alloc, sides, count)?;
+    let growth = place_all(alloc, sides, roots, count)?;
     let Numbers { number, end } = numbers_of(alloc, &growth, count)?;
-    let low = furthest(alloc, sides, &growth, &number, count)?;
+    let Reached { far, inner } = furthest(alloc, sides, &growth, &number, count)?;
     let Growth {
         placed: _,
         up,
         top,
-        order: _,
+        order,
     } = growth;
     Ok(Tree {
         up,
         top,
         number,
         end,
-        low,
+        far,
+        low: inner,
+        order,
     })
 }
 
-/// The tree, and whether it passed its check.
+/// The tree, and whether it passed its check. The list has for the first cell of each part the root that the part is to
+/// have; where the list is empty, that is the first cell.
 pub(crate) fn spanning_tree<A: Allocator + Copy, B: Allocator + Copy>(
     alloc: A,
     sides: &Sides<'_, B>,
+    roots: &Vec<u32, A>,
 ) -> Result<(Tree<A>, bool), AllocError>
     ensures { IfOk result (λ it. it.1 ≡ true → IsSpanning sides.now it.0) }
 {
     let count = sides.grid().cell_count();
-    let tree = tree_of(alloc, sides, count)?;
+    let tree = tree_of(alloc, sides, roots, count)?;
     let is_sound = are_fit(sides, &tree, count);
     Ok((tree, is_sound))
 }

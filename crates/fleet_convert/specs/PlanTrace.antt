@@ -1,7 +1,6 @@
 -- A plan as a trace: its robots stand on their first cells, and make a tick for each of its steps. They have no errands.
-use Rattle.std.specs.Prelude.{◌≡◌, ℕ, Bool, true, false, List, [], ◌∷◌, map, drop, None, Ok, Err}
+use Rattle.std.specs.Prelude.{◌≡◌, ◌<◌, ℕ, Bool, true, false, List, [], ◌∷◌, map, drop, None, Ok}
 use Rattle.std.specs.declared.alloc.Global.{Global}
-use Rattle.fleet_map.specs.declared.fault.MapFault.{MapFault}
 use Rattle.fleet_map.specs.Grammar.{Map, map_of}
 use Rattle.fleet_grid.specs.Floor.{floor_of_map}
 use Rattle.fleet_hooks.specs.declared.law.StampLaw.{StampLaw}
@@ -16,6 +15,8 @@ use Rattle.fleet_trace.specs.Text.{trace_text}
 use Rattle.fleet_trace.specs.Trace.{Trace}
 use Rattle.fleet_plans.specs.declared.answer.PlanAnswer.{PlanAnswer}
 use Rattle.fleet_plans.specs.declared.answer.PlanAnswer.TheVariants as answer
+use Rattle.fleet_plans.specs.declared.report.PlanReport.{PlanReport}
+use Rattle.fleet_plans.specs.Answer.{IsPlanAnswer}
 use Rattle.fleet_plans.specs.Goals.{Nothing}
 use Rattle.fleet_plans.specs.Study.{IsTextStudy}
 use Rattle.fleet_plans.specs.Valid.{place_at}
@@ -55,6 +56,7 @@ pub record IsTraceText (m : Map) (places : List (List ℕ)) (text : List ℕ) : 
 -- why placements give no trace, unless memory ran out
 abbrev pub IsNoTraceOn : Map → List (List ℕ) → TracingFault → Type 0
 IsNoTraceOn m places (fault.NoPlan a) = ⊥
+IsNoTraceOn m places fault.TooManyRobots = ⊥
 IsNoTraceOn m places (fault.Illegal at rule) = IsFirstIllegal (floor_of_map m) (plan_trace places).history at rule
 IsNoTraceOn m places fault.NoMemory = Unit {0}
 
@@ -78,13 +80,20 @@ pub record IsUntraceable (bytes plan : List ℕ) (at rule : ℕ) : Type 0 where
   pub valid : is_valid said ≡ true
   pub illegal : IsFirstIllegal (floor_of_map floor) (plan_trace places).history at rule
 
--- there is no map, or this is said of the plan, and not that it is valid
-pub data IsRefused (bytes plan : List ℕ) (a : PlanAnswer) : Type 0 where
-  without_floor : (f : MapFault) → map_of bytes ≡ Err f → a ≡ answer.Map f → IsRefused bytes plan a
-  not_valid : (m : Map) (places : List (List ℕ)) → map_of bytes ≡ Ok m → IsTextStudy Nothing m plan a places → is_valid a ≡ false → IsRefused bytes plan a
+-- this is said of the plan, and not that it is valid
+pub record IsRefused (bytes plan : List ℕ) (a : PlanAnswer) : Type 0 where
+  pub told : IsPlanAnswer bytes plan a
+  pub not_valid : is_valid a ≡ false
 
--- why there is no trace, unless memory ran out: there is no valid plan, or its trace is not legal
+-- it is said of the plan that it is valid, and it has more robots than a trace
+pub record HasTooMany (bytes plan : List ℕ) : Type 0 where
+  pub report : PlanReport
+  pub told : IsPlanAnswer bytes plan (answer.Valid report)
+  pub many : 512 < report.robots
+
+-- why there is no trace, unless memory ran out: there is no valid plan, it has too many robots, or its trace is not legal
 abbrev pub IsUntraced : List ℕ → List ℕ → TracingFault → Type 0
 IsUntraced bytes plan (fault.NoPlan a) = IsRefused bytes plan a
+IsUntraced bytes plan fault.TooManyRobots = HasTooMany bytes plan
 IsUntraced bytes plan (fault.Illegal at rule) = IsUntraceable bytes plan at rule
 IsUntraced bytes plan fault.NoMemory = Unit {0}

@@ -10,7 +10,7 @@ use fleet_grid::Grid;
 use fleet_history::{Chapter, ClientState, Entry, Opening, RobotState, Row};
 use fleet_hooks::StampLaw;
 use fleet_map::{MapFault, MapText, read_map};
-use fleet_plans::{MOST_PLAN_BYTES, Placements, PlanAnswer, study_texts};
+use fleet_plans::{MOST_PLAN_BYTES, Placements, PlanAnswer, check_texts, study_texts};
 use fleet_trace::{JudgeFault, judge, write_trace};
 use std::alloc::{AllocError, Global};
 
@@ -19,8 +19,10 @@ use std::alloc::{AllocError, Global};
 pub enum TracingFault {
     /// There is no valid plan. This is what `check_texts` answers.
     NoPlan(PlanAnswer),
-    /// The plan is valid, and its trace is not legal, since it has no robot or more than 512. Entry `at`, counted from
-    /// 1, is the first that breaks a rule, and `rule` is the first rule that it breaks; at 0 it is the opening.
+    /// The plan is valid, and has more than 512 robots.
+    TooManyRobots,
+    /// The plan is valid, and its trace is not legal, since it has no robot. Entry `at`, counted from 1, is the first
+    /// that breaks a rule, and `rule` is the first rule that it breaks; at 0 it is the opening.
     Illegal { at: u64, rule: u8 },
     /// Memory ran out.
     NoMemory,
@@ -36,6 +38,9 @@ impl From<AllocError> for TracingFault {
         TracingFault::NoMemory
     }
 }
+
+/// The greatest number of robots in a trace.
+const MOST_ROBOTS: u32 = 512;
 
 /// The only stamp of robots that never arrive.
 const NO_STAMP: StampLaw = StampLaw { low: 0, high: 0 };
@@ -183,10 +188,8 @@ fn map_fault(fault: MapFault) -> Result<MapFault, AllocError>
     }
 }
 
-/// The text of a plan on a map, as a trace: the robots stand on their first cells, and make a tick for each step of the
-/// plan. There is one client, which sends nothing, and no robot has an errand. A fault is that there is no valid plan,
-/// or that the trace would not be legal.
-pub fn trace_of_plan(alloc: Global, bytes: &[u8], plan: &[u8]) -> Result<String, TracingFault>
+/// The text of a valid plan of 512 robots at most, as a trace. All of its placements are kept.
+fn trace_of_valid(alloc: Global, bytes: &[u8], plan: &[u8]) -> Result<String, TracingFault>
     requires { length plan.now ≤ MOST_PLAN_BYTES }
     ensures trace { IfOk result (λ text. IsTraced bytes.now plan.now (string_bytes text)) }
     ensures fault { IfErr result (λ fault. IsUntraced bytes.now plan.now fault) }
@@ -197,5 +200,25 @@ pub fn trace_of_plan(alloc: Global, bytes: &[u8], plan: &[u8]) -> Result<String,
             let fault = map_fault(fault)?;
             Err(TracingFault::NoPlan(PlanAnswer::Map(fault)))
         }
+    }
+}
+
+/// The text of a plan on a map, as a trace: the robots stand on their first cells, and make a tick for each step of the
+/// plan. There is one client, which sends nothing, and no robot has an errand. A fault is that there is no valid plan,
+/// that it has more than 512 robots, or that the trace would not be legal. Placements are kept only of a plan that is
+/// valid and has no more robots.
+pub fn trace_of_plan(alloc: Global, bytes: &[u8], plan: &[u8]) -> Result<String, TracingFault>
+    requires { length plan.now ≤ MOST_PLAN_BYTES }
+    ensures trace { IfOk result (λ text. IsTraced bytes.now plan.now (string_bytes text)) }
+    ensures fault { IfErr result (λ fault. IsUntraced bytes.now plan.now fault) }
+{
+    match check_texts(alloc, bytes, plan)? {
+        PlanAnswer::Valid(report) => {
+            if report.robots > MOST_ROBOTS {
+                return Err(TracingFault::TooManyRobots);
+            }
+            trace_of_valid(alloc, bytes, plan)
+        }
+        answer => Err(TracingFault::NoPlan(answer)),
     }
 }

@@ -17,7 +17,7 @@ use Rattle.fleet_history.specs.Legal.{Fits, IsTickAfter, due_of, due}
 use Rattle.fleet_history.specs.Verdicts.{IsVerdict}
 use Rattle.fleet_history.proofs.Ticks.{each_tick-shut, each_tick-take, each_tick-tick}
 use Rattle.fleet_planner.specs.Planned.{IsPlanned}
-use Rattle.fleet_planner.proofs.Goals.{planned-advances}
+use Rattle.fleet_bound.proofs.Roomy.{roomy-tick}
 use Rattle.fleet_state.specs.Follows.{MayFollow}
 use Rattle.fleet_state.specs.State.{State, IsStateOf}
 use Rattle.fleet_state.proofs.Parts.{cells-of, waits-of}
@@ -119,7 +119,7 @@ module _ {A : Type 0} {m : Floor} {limits : Limits} {ties : List TieLaw} {n : �
       farewells = gone;
       fits = fits;
       planned = planned;
-      advancing = λ none. planned-advances m ties _ _ _ _ none planned;
+      advancing = roomy-tick m ties h to k.is.legal planned;
       world = ap (λ (boxes : List Pending). record { floor = m; limits = limits; ties = ties; number = n; history = after h (entry.Tick to come gone); mailboxes = boxes })
           (ticked-boxes k.is.legal k.boxed to come gone tick at told);
       tick = ap (λ (r : TickReport). r.tick) reported ∙ at;

@@ -1,5 +1,5 @@
 -- A core's history keeps the bound on waits.
-use Rattle.std.proofs.Common.{arith, ◌≡◌, ℕ, ◌<◌, List, Option, Some, None, refl, sym, subst, ◌∙◌}
+use Rattle.std.proofs.Common.{arith, ◌≡◌, ℕ, ◌<◌, ◌⊎◌, inl, inr, List, Option, Some, None, refl, sym, subst, ◌∙◌}
 use Rattle.std.proofs.lemmas.List.{length-map}
 use Rattle.std.proofs.lemmas.List.FromFn.{length-range_with_len}
 use Rattle.std.specs.Prelude.{IfSome, MatchOption, length}
@@ -14,7 +14,9 @@ use Rattle.fleet_history.specs.Waits.{wait}
 use Rattle.fleet_history.proofs.Legal.{legal-opening}
 use Rattle.fleet_history.proofs.Withdrawals.{unfinished-start}
 use Rattle.fleet_bound.specs.Bound.{KeepsBound, WaitsAreBounded}
+use Rattle.fleet_bound.specs.Roomy.{AdvancesIfRoomy, HasBound}
 use Rattle.fleet_bound.proofs.BoundLaws.{bound-empty, bound-legal, bound-short}
+use Rattle.fleet_bound.proofs.Roomy.{roomy-ticks}
 use Rattle.fleet_state.specs.State.{State}
 use Rattle.fleet_pibt.specs.Eldest.{IsEldest}
 use Rattle.fleet_pibt.specs.Order.{wait_of}
@@ -26,7 +28,6 @@ use Rattle.fleet_core.specs.Hooks.{HookLaws, AreOrderly}
 use Rattle.fleet_core.specs.inside.Kept.{IsKept}
 use Rattle.fleet_core.specs.inside.Mailboxes.{Mailboxes}
 use Rattle.fleet_core.specs.Opening.{CanOpen}
-use Rattle.fleet_planner.proofs.GoalsKept.{each_advances}
 use Rattle.fleet_core.proofs.OpeningFacts.{legal-opened, unfinished-opened}
 
 -- at the opening nobody waits
@@ -38,11 +39,19 @@ bound-opened {A = A} m starts n limits laws can orderly =
     (λ r l. sym (unfinished-start o r) ∙ unfinished-opened A starts n limits laws r)
 
 module _ {A : Type 0} {m : Floor} {limits : Limits} {ties : List TieLaw} {number : ℕ} {h : History A} {s : State A} {p : Planner} {x : Mailboxes} (k : IsKept m limits ties number h s p x) where
-  pub bound-kept : IsBridgeless (IsNeighbour m) → KeepsBound m h
-  bound-kept none = bound-legal m h k.is.legal (each_advances m ties h k.tied.planned none) (k.bounded none)
+  -- each tick advances if all errands go to roomy cells
+  pub advances-kept : AdvancesIfRoomy m h
+  advances-kept = roomy-ticks m ties h k.is.legal k.tied.planned
 
-  pub waits-kept : IsBridgeless (IsNeighbour m) → WaitsAreBounded m h
-  waits-kept none = bound-short m h k.is.legal (bound-kept none)
+  begins-kept : IsBridgeless (IsNeighbour m) ⊎ KeepsBound m (start h.opening) → KeepsBound m (start h.opening)
+  begins-kept (inl none) = k.bounded none
+  begins-kept (inr keeps) = keeps
+
+  pub bound-kept : HasBound m h → KeepsBound m h
+  bound-kept has = bound-legal m h k.is.legal (advances-kept has.roomy) (begins-kept has.begins)
+
+  pub waits-kept : HasBound m h → WaitsAreBounded m h
+  waits-kept has = bound-short m h k.is.legal (bound-kept has)
 
 -- a wait, if there is one
 pub if-below : (o : Option ℕ) (n : ℕ) → ((w : ℕ) → o ≡ Some w → w < n) → IfSome o (λ w. w < n)

@@ -1,8 +1,7 @@
 -- What a world holds, and what its calls do to it.
 use Rattle.std.specs.Prelude.{ℕ, ◌+◌, false, ◌≡◌, ◌<◌, ◌≤◌, List, [], ◌∷◌, ◌++◌, Option, None, drop, length, slice_index_or, slice_set, map, replicate, slice_index}
 use Rattle.std.specs.List.{range_with_len}
-use Rattle.fleet_grid.specs.Floor.{Floor, IsNeighbour}
-use Rattle.fleet_grid.specs.Walk.{IsBridgeless}
+use Rattle.fleet_grid.specs.Floor.{Floor}
 use Rattle.fleet_hooks.specs.declared.law.StampLaw.{StampLaw}
 use Rattle.fleet_hooks.specs.declared.law.TieLaw.{TieLaw}
 use Rattle.fleet_book.specs.declared.order.Order.{Order}
@@ -20,6 +19,7 @@ use Rattle.fleet_history.specs.Legal.{Fits}
 use Rattle.fleet_history.specs.Next.{next_opening}
 use Rattle.fleet_history.specs.Notices.{told}
 use Rattle.fleet_planner.specs.Planned.{IsPlanned, IsAdvancingTick}
+use Rattle.fleet_bound.specs.Roomy.{EldestIsRoomy}
 use Rattle.fleet_core.specs.declared.faults.TickReport.{TickReport}
 use Rattle.fleet_core.specs.Hooks.{HookLaws, law_at}
 use Rattle.fleet_core.specs.Pending.{Pending, no_pending}
@@ -88,7 +88,7 @@ pub record Ticks {A : Type 0} (before : World A) (report : TickReport) (after : 
   pub farewells : List Bye
   pub fits : Fits {A = A} before.floor before.history (entry.Tick to arrived farewells)
   pub planned : IsPlanned before.floor before.ties before.history to
-  pub advancing : IsBridgeless (IsNeighbour before.floor) → IsAdvancingTick before.floor before.history to
+  pub advancing : EldestIsRoomy before.floor before.history → IsAdvancingTick before.floor before.history to
   pub world : after ≡ grown before (entry.Tick to arrived farewells)
   pub tick : report.tick ≡ clock before.history + 1
   pub arrived_count : report.arrived ≡ length arrived

@@ -2,12 +2,11 @@
 
 ghost use Rattle.std.specs.Prelude.{◌≡◌, ◌+◌, ◌↔◌, OnOk, OnErr, IfOk};
 ghost use Rattle.fleet_bound.specs.Bound.{WaitsAreBounded};
-ghost use Rattle.fleet_grid.specs.Floor.{IsNeighbour};
-ghost use Rattle.fleet_grid.specs.Walk.{IsBridgeless};
 ghost use Rattle.fleet_history.specs.History.{history_of};
 ghost use Rattle.fleet_history.specs.Laws.{EachTick};
 ghost use Rattle.fleet_history.specs.Legal.{IsLegal};
-ghost use Rattle.fleet_planner.specs.Planned.{IsPlanned, IsAdvancingTick};
+ghost use Rattle.fleet_planner.specs.Planned.{IsPlanned};
+ghost use Rattle.fleet_bound.specs.Roomy.{AdvancesIfRoomy, HasBound};
 ghost use Rattle.fleet_core.specs.Core.{next_world};
 ghost use Rattle.fleet_core.specs.Hooks.{AreArrivals, AreFarewells};
 
@@ -25,8 +24,8 @@ impl<A: Allocator + Copy> Core<A> {
         ensures number { IfOk result (λ chapter. chapter.number ≡ self.old.number) }
         ensures legal { OnOk result (IsLegal self.old.floor self.old.history) }
         ensures planned { OnOk result (EachTick (IsPlanned self.old.floor self.old.ties) self.old.history) }
-        ensures advancing { OnOk result (IsBridgeless (IsNeighbour self.old.floor) → EachTick (IsAdvancingTick self.old.floor) self.old.history) }
-        ensures bounded { OnOk result (IsBridgeless (IsNeighbour self.old.floor) → WaitsAreBounded self.old.floor self.old.history) }
+        ensures advancing { OnOk result (AdvancesIfRoomy self.old.floor self.old.history) }
+        ensures bounded { OnOk result (HasBound self.old.floor self.old.history → WaitsAreBounded self.old.floor self.old.history) }
         ensures next { OnOk result (self.new ≡ next_world self.old) }
         ensures arrivals { (laws : _) → AreArrivals self.old.history laws → AreArrivals self.new.history laws }
         ensures farewells { (spare : _) → AreFarewells self.old.history spare → AreFarewells self.new.history spare }

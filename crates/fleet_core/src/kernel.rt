@@ -13,8 +13,9 @@ ghost use Rattle.fleet_history.specs.Legal.{IsLegal, is_done, is_none_left};
 ghost use Rattle.fleet_history.specs.Notices.{noticed_count};
 ghost use Rattle.fleet_history.specs.Waits.{wait};
 ghost use Rattle.fleet_pibt.specs.Eldest.{IsEldest};
-ghost use Rattle.fleet_planner.specs.Planned.{waits, IsPlanned, IsAdvancingTick};
+ghost use Rattle.fleet_planner.specs.Planned.{waits, IsPlanned};
 ghost use Rattle.fleet_planner.specs.Aimed.{IsIdle};
+ghost use Rattle.fleet_bound.specs.Roomy.{AdvancesIfRoomy, HasBound};
 ghost use Rattle.fleet_core.specs.Opening.{CanOpen};
 ghost use Rattle.fleet_core.specs.Core.{opened_world, pending, HasEntries, HasNoEntries};
 
@@ -120,9 +121,9 @@ impl<A: Allocator + Copy> Core<A> {
         ensures counts { (c : ℕ) → c < clients self.now.history → noticed_count self.now.history c + owed self.now.history c ≤ 2 ^ 57 }
         ensures pending { (c : ℕ) → c < clients self.now.history → length (pending self.now c).notices + owed self.now.history c ≤ 2 ^ 57 }
         ensures planned { EachTick (IsPlanned self.now.floor self.now.ties) self.now.history }
-        ensures advancing { IsBridgeless (IsNeighbour self.now.floor) → EachTick (IsAdvancingTick self.now.floor) self.now.history }
-        ensures bounded { IsBridgeless (IsNeighbour self.now.floor) → WaitsAreBounded self.now.floor self.now.history }
-        ensures keeps_bound { IsBridgeless (IsNeighbour self.now.floor) → KeepsBound self.now.floor self.now.history }
+        ensures advancing { AdvancesIfRoomy self.now.floor self.now.history }
+        ensures bounded { HasBound self.now.floor self.now.history → WaitsAreBounded self.now.floor self.now.history }
+        ensures keeps_bound { HasBound self.now.floor self.now.history → KeepsBound self.now.floor self.now.history }
     {
         &self.chapter
     }
@@ -130,7 +131,7 @@ impl<A: Allocator + Copy> Core<A> {
     pub fn wait_of(&self, robot: u32) -> Option<u64>
         requires { robot < robots self.now.history }
         ensures wait { result ≡ wait self.now.history robot }
-        ensures bounded { IsBridgeless (IsNeighbour self.now.floor) → IfSome result (λ w. w < wait_bound self.now.floor self.now.history) }
+        ensures bounded { HasBound self.now.floor self.now.history → IfSome result (λ w. w < wait_bound self.now.floor self.now.history) }
     {
         self.state.wait_of(robot)
     }
@@ -224,8 +225,8 @@ impl<A: Allocator + Copy> Core<A> {
         ensures number { result.1.number ≡ self.number }
         ensures legal { IsLegal self.floor self.history }
         ensures planned { EachTick (IsPlanned self.floor self.ties) self.history }
-        ensures advancing { IsBridgeless (IsNeighbour self.floor) → EachTick (IsAdvancingTick self.floor) self.history }
-        ensures bounded { IsBridgeless (IsNeighbour self.floor) → WaitsAreBounded self.floor self.history }
+        ensures advancing { AdvancesIfRoomy self.floor self.history }
+        ensures bounded { HasBound self.floor self.history → WaitsAreBounded self.floor self.history }
     {
         // Each by a call: a drop that goes unsaid is proved anew, list by list.
         mem::drop(self.state);

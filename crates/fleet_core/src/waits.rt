@@ -4,6 +4,7 @@ ghost use Rattle.std.specs.Prelude.{◌≡◌, ◌<◌, ◌↔◌, IsTrue, IsSom
 ghost use Rattle.fleet_bound.specs.Arriving.{IsIdleWithin};
 ghost use Rattle.fleet_bound.specs.Bound.{wait_bound};
 ghost use Rattle.fleet_bound.specs.Idle.{idle_ticks, longest_after};
+ghost use Rattle.fleet_bound.specs.Roomy.{HasBound};
 ghost use Rattle.fleet_grid.specs.Counts.{floor_count};
 ghost use Rattle.fleet_grid.specs.Floor.{IsNeighbour};
 ghost use Rattle.fleet_grid.specs.Walk.{IsBridgeless};
@@ -17,12 +18,12 @@ use crate::world::World;
 use std::alloc::Allocator;
 
 impl<A: Allocator + Copy> World<A> {
-    /// How many ticks the robot has waited for the arrival at its front errand's cell; `None` if it has no errand. On a
-    /// bridgeless map it is below the bound, whatever was posted meanwhile.
+    /// How many ticks the robot has waited for the arrival at its front errand's cell; `None` if it has no errand. It is
+    /// below the bound if all errands go to cells that are roomy for all robots, as all cells of a bridgeless map are.
     pub fn wait_of(&self, robot: u32) -> Option<u64>
         requires { robot < robots self.now.core.history }
         ensures wait { result ≡ wait self.now.core.history robot }
-        ensures bounded { IsBridgeless (IsNeighbour self.now.core.floor) → IfSome result (λ w. w < wait_bound self.now.core.floor self.now.core.history) }
+        ensures bounded { HasBound self.now.core.floor self.now.core.history → IfSome result (λ w. w < wait_bound self.now.core.floor self.now.core.history) }
     {
         self.core.wait_of(robot)
     }

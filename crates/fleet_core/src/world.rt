@@ -9,7 +9,8 @@ ghost use Rattle.fleet_grid.specs.Walk.{IsBridgeless};
 ghost use Rattle.fleet_history.specs.Laws.{EachTick};
 ghost use Rattle.fleet_history.specs.Legal.{IsLegal};
 ghost use Rattle.fleet_history.specs.Notices.{noticed_count};
-ghost use Rattle.fleet_planner.specs.Planned.{IsPlanned, IsAdvancingTick};
+ghost use Rattle.fleet_planner.specs.Planned.{IsPlanned};
+ghost use Rattle.fleet_bound.specs.Roomy.{AdvancesIfRoomy, HasBound};
 ghost use Rattle.fleet_core.specs.Hooks.{laws_of, spare_laws, AreOrderly, AreArrivals, AreFarewells};
 ghost use Rattle.fleet_core.specs.Opening.{CanOpen};
 ghost use Rattle.fleet_core.specs.OpeningFaults.{IsRefused, IsNamed};
@@ -135,9 +136,9 @@ impl<A: Allocator + Copy> World<A> {
         ensures counts { (c : ℕ) → c < clients self.now.core.history → noticed_count self.now.core.history c + owed self.now.core.history c ≤ 2 ^ 57 }
         ensures pending { (c : ℕ) → c < clients self.now.core.history → length (pending self.now.core c).notices + owed self.now.core.history c ≤ 2 ^ 57 }
         ensures planned { EachTick (IsPlanned self.now.core.floor self.now.core.ties) self.now.core.history }
-        ensures advancing { IsBridgeless (IsNeighbour self.now.core.floor) → EachTick (IsAdvancingTick self.now.core.floor) self.now.core.history }
-        ensures bounded { IsBridgeless (IsNeighbour self.now.core.floor) → WaitsAreBounded self.now.core.floor self.now.core.history }
-        ensures keeps_bound { IsBridgeless (IsNeighbour self.now.core.floor) → KeepsBound self.now.core.floor self.now.core.history }
+        ensures advancing { AdvancesIfRoomy self.now.core.floor self.now.core.history }
+        ensures bounded { HasBound self.now.core.floor self.now.core.history → WaitsAreBounded self.now.core.floor self.now.core.history }
+        ensures keeps_bound { HasBound self.now.core.floor self.now.core.history → KeepsBound self.now.core.floor self.now.core.history }
     {
         self.core.chapter()
     }
@@ -153,8 +154,8 @@ impl<A: Allocator + Copy> World<A> {
         ensures number { IfOk result (λ chapter. chapter.number ≡ self.old.core.number) }
         ensures legal { OnOk result (IsLegal self.old.core.floor self.old.core.history) }
         ensures planned { OnOk result (EachTick (IsPlanned self.old.core.floor self.old.core.ties) self.old.core.history) }
-        ensures advancing { OnOk result (IsBridgeless (IsNeighbour self.old.core.floor) → EachTick (IsAdvancingTick self.old.core.floor) self.old.core.history) }
-        ensures bounded { OnOk result (IsBridgeless (IsNeighbour self.old.core.floor) → WaitsAreBounded self.old.core.floor self.old.core.history) }
+        ensures advancing { OnOk result (AdvancesIfRoomy self.old.core.floor self.old.core.history) }
+        ensures bounded { OnOk result (HasBound self.old.core.floor self.old.core.history → WaitsAreBounded self.old.core.floor self.old.core.history) }
         ensures next { OnOk result (self.new.core ≡ next_world self.old.core) }
         ensures err { OnErr result (self.new.core ≡ self.old.core) }
     {
@@ -168,8 +169,8 @@ impl<A: Allocator + Copy> World<A> {
         ensures number { result.1.number ≡ self.core.number }
         ensures legal { IsLegal self.core.floor self.core.history }
         ensures planned { EachTick (IsPlanned self.core.floor self.core.ties) self.core.history }
-        ensures advancing { IsBridgeless (IsNeighbour self.core.floor) → EachTick (IsAdvancingTick self.core.floor) self.core.history }
-        ensures bounded { IsBridgeless (IsNeighbour self.core.floor) → WaitsAreBounded self.core.floor self.core.history }
+        ensures advancing { AdvancesIfRoomy self.core.floor self.core.history }
+        ensures bounded { HasBound self.core.floor self.core.history → WaitsAreBounded self.core.floor self.core.history }
     {
         let World { core, robots: _ } = self;
         core.finish()
@@ -206,7 +207,7 @@ impl<A: Allocator + Copy> World<A> {
         ensures room { OnOk result (HasRoom self.old.core client) }
         ensures entries { OnOk result (HasEntries self.old.core) }
         ensures ok { IfOk result (λ v. Takes self.old.core client order v self.new.core) }
-        // On a bridgeless map each tick of the world is advancing, and what it accepts arrives in its queue's turn.
+        // Where errands go to roomy cells each tick of the world is advancing, and what it accepts arrives in its queue's turn.
         ensures arrives { IfOk result (λ v. ArrivesInTurn self.old.core.floor self.old.core.history client order v) }
         ensures err { OnErr result (self.new.core ≡ self.old.core) }
     {

@@ -13,3 +13,4 @@ mod Places
 mod Planned
 mod Shuts
 mod HeadSaid
+mod Serves

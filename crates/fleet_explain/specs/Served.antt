@@ -1,6 +1,5 @@
 -- Lines of a script that a serve does not take.
-use Rattle.std.specs.Prelude.{ℕ, Bool, false, not, nat_lt, List, Option, Some, None, slice_get}
-use Rattle.std.specs.List.{position}
+use Rattle.std.specs.Prelude.{ℕ, Bool, false, nat_lt, List, [], ◌∷◌, Option, Some, None, if◌then◌else◌}
 use Rattle.fleet_book.specs.declared.event.Event.{Event}
 use Rattle.fleet_book.specs.declared.event.Event.TheVariants.{Post, Take, Tick, Give, Collect, Shut}
 
@@ -13,11 +12,8 @@ is_served clients Tick = false
 is_served clients (Give client) = false
 is_served clients (Shut robot) = false
 
--- the line of the event at this place
-abbrev pub line_of : List ℕ → Option ℕ → Option ℕ
-line_of lines None = None
-line_of lines (Some at) = slice_get lines at
-
 -- of events and the line of each, the line of the first that a serve does not take
 abbrev pub first_unserved : ℕ → List Event → List ℕ → Option ℕ
-first_unserved clients events lines = line_of lines (position (λ e. not (is_served clients e)) events)
+first_unserved clients [] lines = None
+first_unserved clients (event ∷ events) [] = None
+first_unserved clients (event ∷ events) (line ∷ lines) = if is_served clients event then first_unserved clients events lines else Some line

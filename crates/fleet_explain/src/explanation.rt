@@ -4,7 +4,7 @@ ghost use Rattle.std.specs.Prelude.{◌≤◌, IfOk, length};
 ghost use Rattle.fleet_map.specs.Form.{HasSides};
 ghost use Rattle.fleet_map.specs.Grammar.{view, map_of, Fails};
 ghost use Rattle.fleet_history.specs.History.{history_of};
-ghost use Rattle.fleet_script.specs.Shown.{plan};
+ghost use Rattle.fleet_script.specs.Runs.{runs_plan};
 ghost use Rattle.fleet_trace.specs.Reads.{IsTraceFault};
 ghost use Rattle.fleet_explain.specs.Explained.{IsNoMap, IsNoTrace, IsMapExplained, IsScriptExplained, IsScriptOn, IsServedAs, IsTraceExplained, IsJudgedAs};
 
@@ -17,7 +17,7 @@ use crate::served::first_unserved;
 use fleet_grid::Grid;
 use fleet_history::Chapter;
 use fleet_map::{MapFault, MapText, read_map};
-use fleet_script::{Script, ScriptFault, read_script};
+use fleet_script::{ScriptFault, ScriptRuns, read_runs};
 use fleet_trace::{FormPart, JudgeFault, TraceFault, form_fault, judge, read_trace};
 use std::alloc::{AllocError, Global};
 
@@ -103,11 +103,11 @@ pub fn explain_map(alloc: Global, map: &[u8]) -> Result<Explanation, AllocError>
 }
 
 /// What a script whose fleet can begin has to say: whether a serve takes its lines.
-fn served_explanation(script: &Script) -> Explanation
-    ensures { IsServedAs (plan script.now) result }
+fn served_explanation(script: &ScriptRuns) -> Explanation
+    ensures { IsServedAs (runs_plan script.now) result }
 {
     let clients = script.clients;
-    match first_unserved(clients, &script.events, &script.lines) {
+    match first_unserved(clients, &script.runs) {
         Some(line) => Explanation::Unserved { line, clients },
         None => Explanation::Fine,
     }
@@ -117,10 +117,10 @@ fn served_explanation(script: &Script) -> Explanation
 fn start_explanation(
     alloc: Global,
     map: MapText,
-    script: &Script,
+    script: &ScriptRuns,
 ) -> Result<Explanation, AllocError>
     requires { HasSides (view map) }
-    ensures { IfOk result (λ e. IsScriptOn (view map) (plan script.now) e) }
+    ensures { IfOk result (λ e. IsScriptOn (view map) (runs_plan script.now) e) }
 {
     let width = map.width;
     let grid = Grid::new(map)?;
@@ -131,8 +131,8 @@ fn start_explanation(
 }
 
 /// What is wrong with a map or with a script on it: first whether the map can be read, then the script, then whether
-/// its fleet can be opened on the map, then whether a serve takes its lines. The events are not run. The only error is
-/// out of memory.
+/// its fleet can be opened on the map, then whether a serve takes its lines. The events are not run, and no list of them
+/// is made. The only error is out of memory.
 pub fn explain_script(alloc: Global, map: &[u8], script: &[u8]) -> Result<Explanation, AllocError>
     requires { length script.now ≤ 16777216 }
     ensures { IfOk result (λ e. IsScriptExplained map.now script.now e) }
@@ -141,7 +141,7 @@ pub fn explain_script(alloc: Global, map: &[u8], script: &[u8]) -> Result<Explan
         Ok(floor) => floor,
         Err(fault) => return map_explanation(alloc, map, fault),
     };
-    match read_script(alloc, script) {
+    match read_runs(alloc, script) {
         Ok(script) => start_explanation(alloc, floor, &script),
         Err(ScriptFault::NoMemory) => Err(AllocError),
         Err(ScriptFault::Line(line)) => {

@@ -1,7 +1,7 @@
 -- Walks go on, and back.
 use Rattle.std.proofs.Common.{◌≡◌, ℕ, ◌+◌, ◌≤◌, List, [], ◌∷◌, ◌++◌, length, refl, sym, ap, subst, ◌∙◌, arith}
 use Rattle.std.proofs.lemmas.List.{length-append}
-use Rattle.fleet_grid.specs.Walk.{Walks, AreJoined, IsDistance}
+use Rattle.fleet_grid.specs.Walk.{Walks, AreJoined, IsDistance, Besides}
 
 pub walk_on : (Near : ℕ → ℕ → Type 0) (a b c : ℕ) (xs ys : List ℕ) → Walks Near a xs b → Walks Near b ys c → Walks Near a (xs ++ ys) c
 walk_on Near a b c [] ys p q = subst (λ (x : ℕ). Walks Near x ys c) (sym p) q
@@ -20,6 +20,9 @@ walk_back Near back a b (x ∷ xs) p =
 
     more : (ys : List ℕ) → length ys + 1 ≡ length (x ∷ ys)
     more ys = grind arith
+
+pub besides_back : (Near : ℕ → ℕ → Type 0) → ((x y : ℕ) → Near x y → Near y x) → (a b x y : ℕ) → Besides Near a b x y → Besides Near a b y x
+besides_back Near turn a b x y r = record { near = turn x y r.near; there = λ p q. r.back q p; back = λ p q. r.there q p }
 
 pub joined_same : (Near : ℕ → ℕ → Type 0) (a : ℕ) → AreJoined Near a a
 joined_same Near a = record { steps = []; walk = refl }

@@ -1,5 +1,5 @@
 -- Walks along a relation of cells, their least length, and bridges.
-use Rattle.std.specs.Prelude.{◌≡◌, ℕ, ◌≤◌, List, [], ◌∷◌, length}
+use Rattle.std.specs.Prelude.{◌≡◌, ◌≢◌, ℕ, ◌<◌, ◌≤◌, List, [], ◌∷◌, length, slice_index}
 
 -- a walk from `a` to `b`, by the cells after `a`
 abbrev pub Walks : (ℕ → ℕ → Type 0) → ℕ → List ℕ → ℕ → Type 0
@@ -33,3 +33,18 @@ pub record IsBridge (Near : ℕ → ℕ → Type 0) (a b : ℕ) : Type 0 where
 
 abbrev pub IsBridgeless : (ℕ → ℕ → Type 0) → Type 0
 IsBridgeless Near = (a b : ℕ) → IsBridge Near a b → ⊥
+
+-- the cell `c` is on the side of `b` of the edge of `a` and `b`: a walk joins it to `b` without crossing that edge
+abbrev pub IsOnSide : (ℕ → ℕ → Type 0) → (a b c : ℕ) → Type 0
+IsOnSide Near a b c = AreJoined (Besides Near a b) b c
+
+-- that side has n cells or more
+pub record HasSide (Near : ℕ → ℕ → Type 0) (a b n : ℕ) : Type 0 where
+  pub cells : List ℕ
+  pub many : n ≤ length cells
+  pub apart : (i j : ℕ) → i < j → j < length cells → slice_index cells i ≢ slice_index cells j
+  pub inside : (i : ℕ) → i < length cells → IsOnSide Near a b (slice_index cells i)
+
+-- each side of each bridge that has the cell has n cells or more
+abbrev pub IsRoomy : (ℕ → ℕ → Type 0) → (n c : ℕ) → Type 0
+IsRoomy Near n c = (a b : ℕ) → IsBridge Near a b → IsOnSide Near a b c → HasSide Near a b n

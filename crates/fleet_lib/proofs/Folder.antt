@@ -3,12 +3,14 @@ use Rattle.std.proofs.Common.{◌≡◌, ◌≢◌, ◌∙◌, ◌+◌, ◌*◌,
 use Rattle.std.specs.Prelude.{codes, decimal, map, min, nat_lt, slice_index_or}
 use Rattle.std.specs.List.{All, Any, Contains, list_any}
 use Rattle.std.proofs.lemmas.Bool.{cases_lt}
-use Rattle.std.proofs.lemmas.List.{append_cancel_left, append_cancel_right, take_more}
-use Rattle.std.proofs.lemmas.List.Elements.{All-contains, All-more, All-weaker, Contains-append_left, Contains-push, Contains-push_cases}
+use Rattle.std.proofs.lemmas.List.{append_cancel_left, append_cancel_right, get_or_default, take_more}
+use Rattle.std.proofs.lemmas.List.Elements.{All-contains, All-more, All-weaker, Contains-append_left, Contains-get_or, Contains-push, Contains-push_cases}
 use Rattle.std.proofs.lemmas.List.Folds.{list_any_at, Any-from_list_any}
+use Rattle.std.proofs.lemmas.List.Sorted.{Contains-permutation, IsPermutation-sym}
 use Rattle.std.proofs.lemmas.Option.{same_Some}
 use Rattle.std.specs.Char.{is_ascii_digit, digit_value}
 use Rattle.std.specs.List.{list_all}
+use Rattle.std.specs.List.Sorted.{IsPermutation}
 use Rattle.std.specs.Str.Parse.{AllDigits, digits_value_after}
 use Rattle.std.proofs.lemmas.Fmt.{decimal_is_IsNumeral}
 use Rattle.std.proofs.lemmas.Str.{digit_value_digit}
@@ -132,6 +134,13 @@ module _ (names : List (List ℕ)) (numbers : List ℕ) (name : List ℕ) (are :
       all n less (inl c) = Contains-append_left numbers (k ∷ []) n (are.all n less c)
       all n less (inr same) = subst (λ (x : ℕ). Contains (numbers ++ k ∷ []) x) (same_number k n small less (sym is ∙ same)) (Contains-push numbers k)
 
+-- the same numbers in another order
+pub numbers-sorted : (names : List (List ℕ)) (numbers sorted : List ℕ) → AreNumbers names numbers → IsPermutation numbers sorted → AreNumbers names sorted
+numbers-sorted names numbers sorted are same = record {
+  each = λ n c. are.each n (Contains-permutation sorted numbers n (IsPermutation-sym numbers sorted same) c);
+  all = λ n small c. Contains-permutation numbers sorted n same (are.all n small c);
+}
+
 -- ---- the last
 
 module _ (numbers : List ℕ) (begin last : ℕ) where
@@ -155,6 +164,67 @@ run-more numbers begin last part some c = record {
     by : (n : ℕ) → begin - 1 ≤ n → n ≤ last → (n < begin) ⊎ (begin ≤ n) → Contains numbers n
     by n above below (inr more) = part.there n more below
     by n above below (inl less) = subst (λ (x : ℕ). Contains numbers x) (omega (arith, above, less, some)) c
+
+-- ---- from the last number down
+
+-- each number is no less than those before it
+abbrev Rises : List ℕ → Type 0
+Rises numbers = (i j d : ℕ) → i ≤ j → j < length numbers → slice_index_or numbers i d ≤ slice_index_or numbers j d
+
+-- the run is followed to its begin, over this many of the last numbers
+pub record IsBegun (numbers : List ℕ) (last begin at : ℕ) : Type 0 where
+  pub part : IsPartRun numbers begin last
+  pub above : (j : ℕ) → length numbers ≤ j + at → j < length numbers → begin ≤ slice_index_or numbers j 0
+
+pub begun : (numbers : List ℕ) (last : ℕ) → Contains numbers last → IsBegun numbers last last 0
+begun numbers last c = record { part = run-begin numbers last c; above = λ j past within. absurd (omega (arith, past, within)) }
+
+-- one number more is no less than the begin
+above-one : (numbers : List ℕ) (begin at : ℕ) → Rises numbers → at < length numbers → begin ≤ slice_index_or numbers (length numbers - 1 - at) 0
+    → (j : ℕ) → length numbers ≤ j + (at + 1) → j < length numbers → begin ≤ slice_index_or numbers j 0
+above-one numbers begin at rises less no-less j past within =
+    let order = rises (length numbers - 1 - at) j 0 (omega (arith, past, within, less)) within in
+    omega (arith, order, no-less)
+
+pub begun-same : (numbers : List ℕ) (last begin at : ℕ) → Rises numbers → IsBegun numbers last begin at → at < length numbers
+    → begin ≤ slice_index_or numbers (length numbers - 1 - at) 0 → IsBegun numbers last begin (at + 1)
+begun-same numbers last begin at rises h less no-less = record { part = h.part; above = above-one numbers begin at rises less no-less }
+
+pub begun-more : (numbers : List ℕ) (last begin at : ℕ) → Rises numbers → IsBegun numbers last begin at → at < length numbers
+    → slice_index_or numbers (length numbers - 1 - at) 0 < begin → begin - slice_index_or numbers (length numbers - 1 - at) 0 ≤ 1
+    → IsBegun numbers last (slice_index_or numbers (length numbers - 1 - at) 0) (at + 1)
+begun-more numbers last begin at rises h less under next =
+    let x = slice_index_or numbers (length numbers - 1 - at) 0 in
+    let is : x ≡ begin - 1 = omega (arith, under, next) in
+    let there : Contains numbers x = Contains-get_or numbers (length numbers - 1 - at) 0 (omega (arith, less)) in
+    record {
+      part = subst (λ (b : ℕ). IsPartRun numbers b last) (sym is) (run-more numbers begin last h.part (omega (arith, under)) (subst (λ (n : ℕ). Contains numbers n) is there));
+      above = above-one numbers x at rises less (omega arith);
+    }
+
+-- the one before the begin is missing
+pub begun-gap : (numbers : List ℕ) (last begin at : ℕ) → Rises numbers → IsBegun numbers last begin at → at < length numbers
+    → slice_index_or numbers (length numbers - 1 - at) 0 < begin → 1 < begin - slice_index_or numbers (length numbers - 1 - at) 0 → IsRun numbers begin last
+begun-gap numbers last begin at rises h less under gap = run-of numbers begin last h.part before
+  where
+    before : (n : ℕ) → n + 1 ≡ begin → Contains numbers n → ⊥
+    before n next (k, within, is) = by (cases_lt (length numbers - 1 - at) k)
+      where
+        read : slice_index_or numbers k 0 ≡ n
+        read = get_or_default numbers k 0 n within ∙ is
+
+        by : (length numbers - 1 - at < k) ⊎ (k ≤ length numbers - 1 - at) → ⊥
+        by (inl after) = let most = h.above k (omega (arith, after, less)) within in absurd (omega (arith, most, read, next))
+        by (inr upto) = let order = rises k (length numbers - 1 - at) 0 upto (omega (arith, less)) in absurd (omega (arith, order, read, next, under, gap))
+
+-- no number is less than the begin
+pub begun-end : (numbers : List ℕ) (last begin at : ℕ) → IsBegun numbers last begin at → length numbers ≤ at → IsRun numbers begin last
+begun-end numbers last begin at h all = run-of numbers begin last h.part before
+  where
+    before : (n : ℕ) → n + 1 ≡ begin → Contains numbers n → ⊥
+    before n next (k, within, is) =
+        let most = h.above k (omega (arith, all)) within in
+        absurd (omega (arith, most, get_or_default numbers k 0 n within ∙ is, next))
 
 -- ---- loops
 

@@ -1,5 +1,5 @@
 -- What the words ask for.
-use Rattle.std.specs.Prelude.{◌≡◌, Bool, true, false, List, map, Option, Some, None, codes, string_bytes, if◌then◌else◌}
+use Rattle.std.specs.Prelude.{◌≡◌, ℕ, Bool, true, false, List, map, Option, Some, None, codes, string_bytes, if◌then◌else◌}
 use Rattle.std.specs.Option.{option_map, option_and_then}
 use Rattle.std.specs.Str.{bytes_eq}
 use Rattle.std.specs.Str.Parse.{digits_value, without_leading_plus}
@@ -59,11 +59,17 @@ form_asked (Some word) = form_named word
 abbrev pub form_in : List Row → FormAsked
 form_in rows = form_asked (first_of (codes "form") rows)
 
+-- how many robots the words after `check` ask for
+abbrev pub IsCountAsked : List Row → Option ℕ → Type 0
+IsCountAsked rows None = first_of (codes "agents") rows ≡ None
+IsCountAsked rows (Some count) = (word : Text) × (first_of (codes "agents") rows ≡ Some word) × (count ≡ digits_value 10 (without_leading_plus word))
+
 -- what the words after `check` ask for
 pub record IsCheck (rows : List Row) (check : CheckJob) : Type 0 where
   pub strict : check.strict ≡ has_flag (codes "strict") rows
   pub form : check.form ≡ form_in rows
   pub goals : first_of (codes "goals") rows ≡ option_map (λ s. string_bytes s) check.goals
+  pub agents : IsCountAsked rows check.agents
   pub floor : first_of (codes "MAP") rows ≡ Some (string_bytes check.map)
   pub plan : first_of (codes "PLAN") rows ≡ Some (string_bytes check.plan)
 
@@ -73,6 +79,7 @@ pub record IsTalk (rows : List Row) (talk : TalkJob) : Type 0 where
   pub script : first_of (codes "SCRIPT") rows ≡ option_map (λ s. string_bytes s) talk.script
   pub traces : first_of (codes "traces") rows ≡ option_map (λ s. string_bytes s) talk.traces
   pub resume : talk.resume ≡ has_flag (codes "resume") rows
+  pub resume_only : talk.resume_only ≡ has_flag (codes "resume-only") rows
   pub marks : talk.marks ≡ has_flag (codes "marks") rows
   pub roll : talk.roll ≡ has_flag (codes "roll") rows
 
@@ -114,10 +121,13 @@ pub record IsLive (rows : List Row) (live : LiveJob) : Type 0 where
   pub tickers : first_of (codes "tickers") rows ≡ option_map (λ s. string_bytes s) live.tickers
   pub traces : first_of (codes "traces") rows ≡ option_map (λ s. string_bytes s) live.traces
   pub resume : live.resume ≡ has_flag (codes "resume") rows
+  pub resume_only : live.resume_only ≡ has_flag (codes "resume-only") rows
   pub keep_every : first_of (codes "keep-every") rows ≡ option_map (λ s. string_bytes s) live.keep_every
+  pub chapter_bytes : first_of (codes "chapter-bytes") rows ≡ option_map (λ s. string_bytes s) live.chapter_bytes
   pub metrics : first_of (codes "metrics") rows ≡ option_map (λ s. string_bytes s) live.metrics
   pub pipes : or_none (all_of (codes "client") rows) ≡ map (λ s. string_bytes s) live.pipes.items
   pub watch : live.watch ≡ has_flag (codes "watch") rows
+  pub service : live.service ≡ has_flag (codes "service") rows
 
 -- the table of a name
 abbrev pub table_named : Text → Option Figures

@@ -1,9 +1,11 @@
 -- What the word `check` prints.
-use Rattle.std.specs.Prelude.{◌≡◌, ℕ, Bool, List, [], ◌++◌, Option, Some, None, codes, decimal}
+use Rattle.std.specs.Prelude.{◌≡◌, ℕ, ◌==◌, if◌then◌else◌, List, [], ◌++◌, Option, Some, None, codes, decimal}
 use Rattle.fleet_text.specs.declared.said.Complaint.TheVariants as complaint
 use Rattle.fleet_text.specs.Complaint.{complaint_text}
 use Rattle.fleet_plans.specs.declared.answer.PlanAnswer.{PlanAnswer}
 use Rattle.fleet_plans.specs.declared.answer.PlanAnswer.TheVariants as answer
+use Rattle.fleet_plans.specs.declared.claims.HeadFault.TheVariants.{Unlike}
+use Rattle.fleet_plans.specs.declared.claims.HeadKey.TheVariants.{Agents}
 use Rattle.fleet_plans.specs.declared.form.TextForm.{TextForm}
 use Rattle.fleet_plans.specs.declared.judging.PlanFault.{PlanFault}
 use Rattle.fleet_plans.specs.declared.goals.GoalFault.{GoalFault}
@@ -15,6 +17,7 @@ use Rattle.fleet_plans.specs.Misspelt.{misspelt_of, misspelt_text}
 use Rattle.fleet_plans.specs.Form.{form_of}
 use Rattle.fleet_plans.specs.Reading.{head_by}
 use Rattle.fleet_plans.specs.Told.{told_text}
+use Rattle.fleet_lib.specs.declared.check.PlanRules.{PlanRules}
 use Rattle.fleet_lib.specs.Said.{Outcome}
 
 abbrev pub good : List ℕ → ℕ → Outcome
@@ -56,10 +59,22 @@ abbrev pub form_by : Option TextForm → List ℕ → TextForm
 form_by None plan = form_of plan
 form_by (Some form) plan = form
 
--- what is said of a plan that is read in this form
-abbrev pub IsOutcomeBy : TextForm → Bool → Option (List ℕ) → List ℕ → List ℕ → Outcome → Type 0
-IsOutcomeBy form strict scenario map plan o = (a : PlanAnswer) × IsFormAnswer form strict scenario map plan a × (o ≡ noted (misspelt_of 1 (head_by form plan)) (outcome_of a))
+-- a valid plan with another number of robots than this is named as one whose head says another number
+abbrev pub counted : ℕ → PlanAnswer → PlanAnswer
+counted count (answer.Valid report) = if report.robots == count then answer.Valid report else answer.Head (Unlike Agents)
+counted count a = a
 
--- what is said to a map and a plan, of which it may be asked that each robot ends on its goal, or does what a scenario says
-abbrev pub IsCheckOutcome : Option TextForm → Bool → Option (List ℕ) → List ℕ → List ℕ → Outcome → Type 0
-IsCheckOutcome form strict scenario map plan o = IsOutcomeBy (form_by form plan) strict scenario map plan o
+-- where a number of robots is asked for
+abbrev pub sized : Option ℕ → PlanAnswer → PlanAnswer
+sized None a = a
+sized (Some count) a = counted count a
+
+-- what is said of a plan that is read in this form
+abbrev pub IsOutcomeBy : TextForm → PlanRules → Option (List ℕ) → List ℕ → List ℕ → Outcome → Type 0
+IsOutcomeBy form rules scenario map plan o =
+    (a : PlanAnswer) × IsFormAnswer form rules.strict scenario map plan a × (o ≡ noted (misspelt_of 1 (head_by form plan)) (outcome_of (sized rules.agents a)))
+
+-- what is said to a map and a plan, of which it may be asked that each robot ends on its goal, or does what a scenario says, and that there are
+-- as many robots
+abbrev pub IsCheckOutcome : PlanRules → Option (List ℕ) → List ℕ → List ℕ → Outcome → Type 0
+IsCheckOutcome rules scenario map plan o = IsOutcomeBy (form_by rules.form plan) rules scenario map plan o

@@ -18,6 +18,7 @@ plan_refused a = outcome_of a
 
 abbrev pub untraced : TracingFault → Outcome
 untraced (fault.NoPlan a) = plan_refused a
+untraced fault.TooManyRobots = refused (codes "fleet: 512 robots at most\n") 6
 untraced (fault.Illegal at rule) = refused (codes "fleet: illegal " ++ (decimal at ++ (codes " " ++ (decimal rule ++ codes "\n")))) 6
 untraced fault.NoMemory = refused (codes "fleet: memory\n") 7
 

@@ -3,12 +3,12 @@
 ghost use Rattle.std.specs.Prelude.{◌≡◌, ◌≤◌, Some, length, string_bytes, IfOk, IfSome};
 ghost use Rattle.std.specs.Option.{option_copied};
 ghost use Rattle.fleet_lib.specs.Said.{said_of};
-ghost use Rattle.fleet_lib.specs.Check.{form_by, IsCheckOutcome, good, refused, outcome_of, goals_outcome, noted, invalid_text};
+ghost use Rattle.fleet_lib.specs.Check.{form_by, counted, sized, IsCheckOutcome, good, refused, outcome_of, goals_outcome, noted, invalid_text};
 
 use crate::said::Said;
 use fleet_plans::{
-    FaultText, GoalFault, MOST_PLAN_BYTES, Misspelt, PlanAnswer, PlanFault, TextForm, check_form,
-    first_misspelt, form_of,
+    FaultText, GoalFault, HeadFault, HeadKey, MOST_PLAN_BYTES, Misspelt, PlanAnswer, PlanFault,
+    TextForm, check_form, first_misspelt, form_of,
 };
 use fleet_text::Complaint;
 use std::alloc::{AllocError, Global};
@@ -154,21 +154,58 @@ fn form_by(form: Option<TextForm>, plan: &[u8]) -> TextForm
     }
 }
 
-/// The answer to a map and a plan: what `check_form` answers, as text. If no form is named, it is that of the text.
+/// How a plan is read, and what is asked of it.
+#[derive(Clone, Copy, Debug)]
+pub struct PlanRules {
+    /// The form in which it is read; if none is named, that of its text.
+    pub form: Option<TextForm>,
+    /// Whether each robot has to end on its goal.
+    pub strict: bool,
+    /// How many robots it has to have, if a number is asked for.
+    pub agents: Option<u32>,
+}
+
+/// The answer to a plan that is to have this many robots: a valid one of another number is not called valid.
+fn counted(count: u32, answer: PlanAnswer) -> PlanAnswer
+    ensures { result ≡ counted count answer }
+{
+    match answer {
+        PlanAnswer::Valid(report) => {
+            if report.robots == count {
+                PlanAnswer::Valid(report)
+            } else {
+                PlanAnswer::Head(HeadFault::Unlike(HeadKey::Agents))
+            }
+        }
+        other => other,
+    }
+}
+
+/// The answer to a plan, of which a number of robots may be asked for.
+fn sized(agents: Option<u32>, answer: PlanAnswer) -> PlanAnswer
+    ensures { result ≡ sized agents answer }
+{
+    match agents {
+        Some(count) => counted(count, answer),
+        None => answer,
+    }
+}
+
+/// The answer to a map and a plan: what `check_form` answers, and whether there are as many robots as asked for, as
+/// text.
 pub fn answer_check(
     alloc: Global,
-    form: Option<TextForm>,
-    strict: bool,
+    rules: PlanRules,
     scenario: Option<&[u8]>,
     map: &[u8],
     plan: &[u8],
 ) -> Result<Said, AllocError>
     requires scenario { IfSome scenario (λ text. length text.now ≤ MOST_PLAN_BYTES) }
     requires plan { length plan.now ≤ MOST_PLAN_BYTES }
-    ensures { IfOk result (λ s. IsCheckOutcome form strict (option_copied scenario.entry) map.now plan.now (said_of s)) }
+    ensures { IfOk result (λ s. IsCheckOutcome rules (option_copied scenario.entry) map.now plan.now (said_of s)) }
 {
-    let form = form_by(form, plan);
-    let answer = check_form(alloc, form, strict, scenario, map, plan)?;
-    let said = said_of_answer(alloc, answer)?;
+    let form = form_by(rules.form, plan);
+    let answer = check_form(alloc, form, rules.strict, scenario, map, plan)?;
+    let said = said_of_answer(alloc, sized(rules.agents, answer))?;
     noted(alloc, first_misspelt(form, plan), said)
 }

@@ -10,6 +10,7 @@ mod holding;
 mod kept;
 mod live;
 mod names;
+mod pipes;
 mod plan_trace;
 mod said;
 mod stats;
@@ -17,7 +18,7 @@ mod talk;
 mod view;
 mod words;
 
-pub use check::answer_check;
+pub use check::{PlanRules, answer_check};
 pub use convert::answer_convert;
 pub use explain::{
     MOST_SCRIPT_BYTES, answer_explain_head, answer_explain_map, answer_explain_plan,
@@ -31,6 +32,7 @@ pub use fleet_text::{InputFault, read_up_to, trace_line, write_whole};
 pub use kept::{KeptFault, KeptText};
 pub use live::run_live;
 pub use names::{NamesFault, last_chapter};
+pub use pipes::pipe_names;
 pub use plan_trace::{Traced, answer_trace, as_trace};
 pub use said::{Said, fail, tell};
 pub use stats::answer_stats;

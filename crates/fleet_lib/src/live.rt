@@ -1,13 +1,14 @@
 //! The word `live`.
 
-ghost use Rattle.std.specs.Prelude.{◌≡◌, ◌≤◌, ◌<◌, ◌⊎◌, ◌==◌, ℕ, Some, if◌then◌else◌, IfOk, IfSome, IfNone, length, map};
+ghost use Rattle.std.specs.Prelude.{◌≡◌, ◌≤◌, ◌<◌, ◌⊎◌, ◌==◌, ℕ, Some, None, if◌then◌else◌, IfOk, IfSome, IfNone, length, map, string_bytes};
 ghost use Rattle.fleet_map.specs.Text.{number_of};
 
 use crate::ending::tell_end;
 use crate::kept::{KeptFault, kept_chapter};
+use crate::pipes::names_twice;
 use crate::said::fail;
 use crate::talk::{TalkTexts, complain, grounds};
-use crate::words::Live;
+use crate::words::{Live, VERSION};
 use fleet_grid::Grid;
 use fleet_history::Chapter;
 use fleet_live::{LiveEnds, LiveSettings, keep_live, read_period, resume_live};
@@ -31,6 +32,9 @@ enum BadWord {
     KeepEvery,
     /// `--keep-every` without a folder to keep chapters in.
     NoFolder,
+    ChapterBytes,
+    /// `--service` without a period.
+    NoPeriod,
     Pipes,
     /// A pipe is named twice.
     Twice,
@@ -70,31 +74,6 @@ fn clients_in(word: &[u8]) -> Option<u32>
     } else {
         None
     }
-}
-
-/// The names of the pipes that a word has, with a comma between them.
-fn names_in(word: &str) -> (&str, &str) {
-    match word.split_once(',') {
-        Some(names) => names,
-        None => (word, ""),
-    }
-}
-
-/// Whether a pipe is named twice.
-fn names_twice(words: &[String]) -> bool {
-    for at in 0..words.len() {
-        let (input, output) = names_in(words[at].as_str());
-        if input == output {
-            return true;
-        }
-        for other in &words[at + 1..] {
-            let (more, back) = names_in(other.as_str());
-            if input == more || input == back || output == more || output == back {
-                return true;
-            }
-        }
-    }
-    false
 }
 
 /// How many clients the fleet has: as the head says, or the chapter that it goes on from; one if neither does.
@@ -158,6 +137,26 @@ fn time_in(word: &Option<String>, fault: BadWord) -> Result<Option<u32>, BadWord
     }
 }
 
+/// The bytes of a chapter's text that a word asks for: from 1 MiB to 1 GiB, which is the greatest that can be read, and
+/// 64 MiB without a word.
+fn chapter_bytes_in(word: &Option<String>) -> Option<u64>
+    ensures none { word.now ≡ None → result ≡ Some 67108864 }
+    ensures some { IfSome word.now (λ text. IfSome result (λ n. (1048576 ≤ n) × (n ≤ 1073741824) × (number_of (string_bytes text) ≡ Some n))) }
+    ensures refused { IfSome word.now (λ text. IfNone result ((n : ℕ) → number_of (string_bytes text) ≡ Some n → (n < 1048576) ⊎ (1073741824 < n))) }
+{
+    match word {
+        None => Some(64 << 20),
+        Some(word) => {
+            let number = number_up_to(word.as_bytes(), (1 << 30) + 1)?;
+            if 1 << 20 <= number && number <= 1 << 30 {
+                Some(number)
+            } else {
+                None
+            }
+        }
+    }
+}
+
 /// How the fleet is kept.
 fn settings_of(live: &Live) -> Result<LiveSettings, BadWord> {
     let period = time_in(&live.period, BadWord::Period)?;
@@ -172,11 +171,20 @@ fn settings_of(live: &Live) -> Result<LiveSettings, BadWord> {
     if keep_every.is_some() && live.traces.is_none() {
         return Err(BadWord::NoFolder);
     }
+    let Some(chapter_bytes) = chapter_bytes_in(&live.chapter_bytes) else {
+        return Err(BadWord::ChapterBytes);
+    };
+    if live.service && period.is_none() {
+        return Err(BadWord::NoPeriod);
+    }
     Ok(LiveSettings {
         period,
         tickers,
         keep_every,
+        chapter_bytes,
         watch: live.watch,
+        service: live.service,
+        version: VERSION,
     })
 }
 
@@ -189,6 +197,8 @@ fn complain_of_word<E: Write>(word: BadWord, error: &mut E) -> u8 {
         BadWord::Tickers => "error: invalid value for '--tickers <N>'\n",
         BadWord::KeepEvery => "error: invalid value for '--keep-every <TIME>'\n",
         BadWord::NoFolder => "error: '--keep-every' needs '--traces <DIR>'\n",
+        BadWord::ChapterBytes => "error: invalid value for '--chapter-bytes <N>'\n",
+        BadWord::NoPeriod => "error: '--service' needs '--period <TIME>'\n",
         BadWord::Pipes => "error: more '--client <IN,OUT>' than clients\n",
         BadWord::Twice => "error: a pipe is named twice for '--client <IN,OUT>'\n",
         BadWord::NoMemory => return fail(InputFault::NoMemory, error),

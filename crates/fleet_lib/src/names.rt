@@ -2,6 +2,8 @@
 
 ghost use Rattle.std.specs.Prelude.{◌≡◌, ◌≢◌, ◌<◌, ◌≤◌, ◌^◌, ℕ, [], OnOk, IfOk, IfErr, MatchOption, decimal, map, nat_lt, string_bytes};
 ghost use Rattle.std.specs.List.{All, Contains, list_any};
+ghost use Rattle.std.specs.List.Sorted.{IsSorted};
+ghost use Rattle.std.specs.Ordering.{nat_cmp};
 ghost use Rattle.fleet_lib.specs.Names.{AreNumbers, AreReadable, IsLast, IsNamed, IsNamesFault, IsRun, chapter_name};
 
 use fleet_map::text::number_up_to;
@@ -106,17 +108,23 @@ fn greatest(numbers: &[u32]) -> Option<u32>
     Some(most)
 }
 
-/// The least number from which on all are there, up to this one.
+/// The least number from which on all are there, up to this one. The numbers are in order.
 fn begin_of(numbers: &[u32], last: u32) -> u32
-    requires { Contains numbers.now last }
+    requires order { IsSorted nat_cmp numbers.now }
+    requires there { Contains numbers.now last }
     ensures { IsRun numbers.now result last }
 {
-    for step in 0..last {
-        if !numbers.contains(&(last - step - 1)) {
-            return last - step;
+    let mut begin = last;
+    for at in 0..numbers.len() {
+        let number = numbers[numbers.len() - 1 - at];
+        if number < begin {
+            if begin - number > 1 {
+                return begin;
+            }
+            begin = number;
         }
     }
-    0
+    begin
 }
 
 /// Whether a number is less than this one.
@@ -135,7 +143,8 @@ pub fn last_chapter(alloc: Global, names: &[String]) -> Result<Option<u32>, Name
     ensures readable { OnOk result (AreReadable (map (λ s. string_bytes s) names.now)) }
     ensures fault { IfErr result (IsNamesFault (map (λ s. string_bytes s) names.now)) }
 {
-    let numbers = numbers_in(alloc, names)?;
+    let mut numbers = numbers_in(alloc, names)?;
+    numbers.sort_unstable();
     let Some(last) = greatest(&numbers) else {
         return Ok(None);
     };

@@ -37,6 +37,10 @@ fn untraced(alloc: Global, fault: TracingFault) -> Result<Said, AllocError>
 {
     match fault {
         TracingFault::NoPlan(answer) => plan_refused(alloc, answer),
+        TracingFault::TooManyRobots => {
+            let text = String::from_str(alloc, "fleet: 512 robots at most\n")?;
+            Ok(refused(alloc, text, 6))
+        }
         TracingFault::Illegal { at, rule } => {
             let text = format!(in alloc; "fleet: illegal {at} {rule}\n")?;
             Ok(refused(alloc, text, 6))

@@ -18,6 +18,7 @@ pub use convert::{Convert, Target};
 pub use explain::Explain;
 pub use job::{Job, parse_words};
 pub use live::Live;
+pub(crate) use program::VERSION;
 pub use stats::{Figures, Stats};
 pub use talk::Talk;
 pub use view::{Shown, View};

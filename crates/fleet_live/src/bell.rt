@@ -54,11 +54,8 @@ impl Asks {
             && !self.hand_out
     }
 
-    /// What is to be done next.
-    fn next(&mut self) -> Call {
-        if let Some(stop) = self.stop {
-            return Call::Stop(stop);
-        }
+    /// What is to be done next of what the clock asks for.
+    fn next_timed(&mut self) -> Call {
         if self.show {
             self.show = false;
             return Call::Show;
@@ -66,6 +63,18 @@ impl Asks {
         if self.hand_out {
             self.hand_out = false;
             return Call::HandOut;
+        }
+        Call::Nothing
+    }
+
+    /// What is to be done next.
+    fn next(&mut self) -> Call {
+        if let Some(stop) = self.stop {
+            return Call::Stop(stop);
+        }
+        match self.next_timed() {
+            Call::Nothing => {}
+            call => return call,
         }
         if let Some(request) = self.requests.pop_front() {
             return Call::Grant(request);
@@ -189,6 +198,13 @@ impl Bell {
         let mut held = self.asks.lock(rt);
         let asks = &mut *held;
         asks.next()
+    }
+
+    /// What is to be done by the clock: figures or a chapter, where they are asked.
+    pub(crate) fn poll_timed<R: Wait>(&self, rt: &R) -> Call {
+        let mut held = self.asks.lock(rt);
+        let asks = &mut *held;
+        asks.next_timed()
     }
 
     /// Waits until something is to be done.

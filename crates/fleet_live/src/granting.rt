@@ -12,6 +12,7 @@ use fleet_text::{
 use live_parts::{Stop, Wanted, look_text};
 use std::alloc::{Alloc, AllocError, Global};
 use std::sync::Wait;
+use std::time::Clock;
 
 /// How many turns of a `tick` are made although `quit` was read after it. So what a conversation is told does not
 /// depend on when its `quit` was read, if no `tick` asks for more.
@@ -25,8 +26,9 @@ impl<N: OfficeName<Global>, S: ChapterSink> Keeper<'_, N, S> {
             || (made.saturating_add(1) >= SURE_TURNS && self.stage.bell.has_quit(rt))
     }
 
-    /// Makes this many turns, at least one, or fewer if `quit` was read. Returns the line of the answer.
-    fn tick_line<R: Alloc<A = Global> + Wait>(
+    /// Makes this many turns, at least one, or fewer if `quit` was read, and does between them what the clock asks for.
+    /// Returns the line of the answer.
+    fn tick_line<R: Alloc<A = Global> + Clock + Wait>(
         &self,
         rt: &R,
         round: &mut Round,
@@ -36,6 +38,8 @@ impl<N: OfficeName<Global>, S: ChapterSink> Keeper<'_, N, S> {
         let alloc = rt.alloc();
         for time in 0..times {
             let is_last = self.is_last_turn(rt, time, times);
+            let call = self.stage.bell.poll_timed(rt);
+            self.heed_timed(rt, round, work, call)?;
             match self.turn(rt, round, work, !is_last)? {
                 Turned::Made => {}
                 Turned::ClockSpent => {
@@ -53,9 +57,10 @@ impl<N: OfficeName<Global>, S: ChapterSink> Keeper<'_, N, S> {
     }
 
     /// Hands out the chapter and keeps it. Returns the line of the answer.
-    fn chapter_line<R: Alloc<A = Global> + Wait>(
+    fn chapter_line<R: Alloc<A = Global> + Clock + Wait>(
         &self,
         rt: &R,
+        round: &mut Round,
         work: &mut Work<N>,
     ) -> Result<String, Stop> {
         let alloc = rt.alloc();
@@ -70,6 +75,7 @@ impl<N: OfficeName<Global>, S: ChapterSink> Keeper<'_, N, S> {
         if let Err(AllocError) = work.chapters.push(chapter) {
             return Err(Stop::NoMemory);
         }
+        round.size.begin(self.office.queues(rt).total);
         self.stage.keep_chapters(rt, &mut work.chapters)?;
         Ok(chapter_line(alloc, number, entries)?)
     }
@@ -83,9 +89,10 @@ impl<N: OfficeName<Global>, S: ChapterSink> Keeper<'_, N, S> {
         robot: u32,
     ) -> Result<String, Stop> {
         let mut done = self.office.shut(rt, robot);
-        if done == Err(ShutFault::ChapterFull) && self.hand_out_full(rt, work)? {
+        if done == Err(ShutFault::ChapterFull) && self.hand_out_full(rt, round, work)? {
             done = self.office.shut(rt, robot);
         }
+        round.size.add_orders(1);
         round.limited |= done == Err(ShutFault::ChapterFull);
         Ok(shut_text(rt.alloc(), robot, done)?)
     }
@@ -104,7 +111,7 @@ impl<N: OfficeName<Global>, S: ChapterSink> Keeper<'_, N, S> {
     }
 
     /// The answer to a request.
-    fn answer<R: Alloc<A = Global> + Wait>(
+    fn answer<R: Alloc<A = Global> + Clock + Wait>(
         &self,
         rt: &R,
         round: &mut Round,
@@ -119,7 +126,7 @@ impl<N: OfficeName<Global>, S: ChapterSink> Keeper<'_, N, S> {
                 Ok(look_text(alloc, &look)?)
             }
             Wanted::Open(client) => self.open_lines(rt, round, work, client),
-            Wanted::Chapter => self.chapter_line(rt, work),
+            Wanted::Chapter => self.chapter_line(rt, round, work),
             Wanted::Tick(times) => self.tick_line(rt, round, work, times),
             Wanted::Settle => {
                 self.settle(rt, round, work)?;
@@ -129,7 +136,7 @@ impl<N: OfficeName<Global>, S: ChapterSink> Keeper<'_, N, S> {
     }
 
     /// Grants a request.
-    pub(crate) fn grant<R: Alloc<A = Global> + Wait>(
+    pub(crate) fn grant<R: Alloc<A = Global> + Clock + Wait>(
         &self,
         rt: &R,
         round: &mut Round,

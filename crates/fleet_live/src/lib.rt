@@ -16,6 +16,7 @@ mod pace;
 mod resuming;
 mod serving;
 mod stage;
+mod telling;
 mod threads;
 mod tickers;
 mod voice;

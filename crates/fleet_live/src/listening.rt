@@ -37,10 +37,10 @@ fn listen_on<R: Wait, I: Read>(
 }
 
 /// Reads the lines of the first conversation to its end. From then on, where turns come by themselves, its answers wait
-/// for no reader; otherwise `quit` ends a `tick` that takes long.
+/// for no reader; otherwise `quit` ends a `tick` that takes long. A service does not end where its lines do.
 pub(crate) fn listen<N: OfficeName<Global>, R: Wait, I: Read + Drop>(
     rt: &R,
-    alloc: Global,
+    (alloc, service): (Global, bool),
     here: &Conversation<N>,
     inbox: &Inbox,
     bell: &Bell,
@@ -50,6 +50,9 @@ pub(crate) fn listen<N: OfficeName<Global>, R: Wait, I: Read + Drop>(
         Ok(mut input) => listen_on(rt, alloc, here.rights, inbox, &mut input),
         Err(_) => Err(Stop::NoMemory),
     };
+    if service && matches!(heard, Ok(()) | Err(Stop::Input)) {
+        return;
+    }
     if !here.rights.ticks {
         here.voice.hurry(rt);
     } else if heard == Err(Stop::Quit) {

@@ -10,7 +10,7 @@ ghost use Rattle.fleet_live.specs.Ended.{IsEnded, IsRefusedHead, ended_by, unope
 
 use crate::conversation::Conversation;
 use crate::ending::finish;
-use crate::serving::{Left, Site, serve};
+use crate::serving::{Left, Site, counted, serve};
 use crate::stage::Stage;
 use fleet_book::Limits;
 use fleet_core::OpenFault;
@@ -75,6 +75,7 @@ impl Opening {
     fn site(&self, alloc: Global, settings: LiveSettings) -> Site {
         Site {
             settings,
+            robots: counted(self.starts.len()),
             cells: self.grid.cell_count(),
             chapter: self.limits.chapter,
             taken: Vec::new(alloc),
@@ -136,12 +137,18 @@ fn end_fleet<
         figures: _,
         paced: _,
         chapter: _,
+        chapter_bytes: _,
+        service: _,
         searches: _,
         round,
         archive,
         before: _,
         waiting: _,
         kept: _,
+        kept_at: _,
+        began_at: _,
+        period: _,
+        version: _,
     } = stage;
     let limited = round.into_inner().limited;
     let mut archive = archive.into_inner();

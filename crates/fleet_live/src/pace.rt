@@ -96,7 +96,7 @@ fn say_counts<N: OfficeName<Global>, R: Alloc<A = Global> + Wait, S: ChapterSink
 /// Does what waits to be done: shows the figures, hands out the chapter, grants at most one request of each
 /// conversation, and judges once what was posted. So requests delay no turn for long, and are done even if each turn is
 /// late.
-fn heed_some<N: OfficeName<Global>, R: Alloc<A = Global> + Wait, S: ChapterSink>(
+fn heed_some<N: OfficeName<Global>, R: Alloc<A = Global> + Clock + Wait, S: ChapterSink>(
     rt: &R,
     keeper: &Keeper<'_, N, S>,
     round: &mut Round,
@@ -127,12 +127,16 @@ fn turn_now<N: OfficeName<Global>, R: Alloc<A = Global> + Clock + Wait, S: Chapt
 ) -> Result<(), Stop> {
     let mut deadlines = deadlines;
     let period = length_of(deadlines.period);
-    round.note_lateness(now.saturating_sub(deadlines.turn), period);
+    let (due, began) = (capped_micros(deadlines.turn), now);
+    round.note_lateness(now.saturating_sub(due), period);
     if keeper.turn(rt, round, work, true)? != Turned::Made {
         return Err(Stop::Limit);
     }
     let now = micros_since(rt, deadlines.start)?;
-    deadlines.turn = next_due(capped_micros(deadlines.turn), period, capped_micros(now));
+    deadlines.turn = next_due(due, period, capped_micros(now));
+    let lateness = began.saturating_sub(due);
+    round.timing.note_turn(lateness, now.saturating_sub(began));
+    round.timing.note_next(due, deadlines.turn, period);
     say_counts(rt, keeper, &mut deadlines, &mut round.tally, now)?;
     round.deadlines = Some(deadlines);
     round.retry_from(now);

@@ -11,7 +11,7 @@ ghost use Rattle.fleet_talk.specs.Resumed.{IsRefusal, IsResumeFault, MayResume, 
 ghost use Rattle.fleet_live.specs.Ended.{IsEnded};
 
 use crate::live::keep_office;
-use crate::serving::Site;
+use crate::serving::{Site, counted};
 use fleet_core::World;
 use fleet_history::Chapter;
 use fleet_office::{Desk, Office, OfficeName};
@@ -34,10 +34,13 @@ fn site_of(
     ensures chapter { IfOk result (λ site. site.chapter ≡ world.now.core.limits.chapter) }
     ensures taken { IfOk result (λ site. site.taken.items ≡ map (λ c. c.taken) world.now.core.history.opening.clients) }
 {
-    let taken = taken_before(alloc, &world.chapter().opening)?;
+    let opening = &world.chapter().opening;
+    let taken = taken_before(alloc, opening)?;
+    let robots = counted(opening.robots.len());
     let chapter = world.core.limits().chapter;
     Ok(Site {
         settings,
+        robots,
         cells,
         chapter,
         taken,
@@ -141,18 +144,20 @@ pub fn resume_live<
     // None does, for this reason.
     ensures refused { IfErr result (λ fault. IsRefusal fault → IsResumeFault (kit_laws ground.kit) ground.grid (drafted ground.head) (chapter_shown chapter) fault) }
 {
-    let cells = ground.grid.cell_count();
+    let (cells, number) = (ground.grid.cell_count(), chapter.number);
+    let mut ends = ends;
     let world = match world_on(rt.alloc(), ground, chapter) {
         Ok(world) => world,
         Err(fault) => return Err(fault),
     };
     match ready(rt.alloc(), &world, cells, settings) {
-        Ok((desk, site)) => match keep_world::<Brand, R, I, W, P, Q, E, S>(
-            rt, desk, world, site, ends,
-        ) {
-            Ok(limited) => Ok(limited),
-            Err(fault) => Err(ResumeFault::Talk(fault)),
-        },
+        Ok((desk, site)) => {
+            ends.sink.goes_on(number, world.clock());
+            match keep_world::<Brand, R, I, W, P, Q, E, S>(rt, desk, world, site, ends) {
+                Ok(limited) => Ok(limited),
+                Err(fault) => Err(ResumeFault::Talk(fault)),
+            }
+        }
         Err(AllocError) => {
             let _left = world.finish();
             Err(ResumeFault::from(AllocError))

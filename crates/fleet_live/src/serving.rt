@@ -1,12 +1,13 @@
 //! How a fleet in real time is served: its conversations' threads, and its tickers.
 
+ghost use Rattle.std.specs.Prelude.{◌≡◌, ◌≤◌, ◌↔◌, IfOk, IsSome, IsTrue, min};
 ghost use Rattle.fleet_office.specs.Views.{AreOn, cores};
 
 use crate::bell::Bell;
 use crate::conversation::Conversation;
 use crate::conversations::{conversations_of, new_voice};
 use crate::pace::Deadlines;
-use crate::stage::{Round, Stage};
+use crate::stage::{Round, Stage, wall_micros};
 use crate::threads::{
     start_chapter_ringer, start_listener, start_reader, start_ringer, start_writer,
 };
@@ -14,7 +15,7 @@ use crate::tickers::work_all;
 use fleet_lanes::Client;
 use fleet_office::{Office, OfficeName, Ticker};
 use fleet_talk::ChapterSink;
-use live_parts::{Archive, Due, LiveEnds, LiveSettings, Pipes, Stop};
+use live_parts::{Archive, ChapterSize, Due, LiveEnds, LiveSettings, Pipes, Stop};
 use std::alloc::{Alloc, AllocError, Global};
 use std::io::{Read, Write};
 use std::sync::atomic::AtomicU64;
@@ -48,6 +49,7 @@ pub(crate) struct Left<N: OfficeName<Global>, S> {
 #[derive(Drop)]
 pub(crate) struct Site {
     pub(crate) settings: LiveSettings,
+    pub(crate) robots: u32,
     pub(crate) cells: u32,
     /// How many entries a full chapter has.
     pub(crate) chapter: u32,
@@ -68,23 +70,54 @@ fn new_bell(alloc: Global) -> Result<Arc<Bell>, AllocError> {
     }
 }
 
-/// What the tickers share, before the first thread.
+/// Whether fields are searched between turns.
+fn searches(settings: &LiveSettings, cells: u32) -> bool
+    ensures { IsTrue result ↔ (IsSome settings.now.period × (65536 ≤ cells)) }
+{
+    settings.period.is_some() && cells >= LARGE
+}
+
+/// A number of robots or clients: there are no more than 64,512 of them.
+pub(crate) fn counted(number: usize) -> u32
+    ensures { result ≡ min number 4294967295 }
+{
+    u32::try_from(number).unwrap_or(u32::MAX)
+}
+
+/// What the first ticker begins with, for this many clients and open errands.
+fn round_of<R: Alloc<A = Global> + Clock>(
+    rt: &R,
+    site: &Site,
+    clients: usize,
+    open: u64,
+) -> Result<Round, AllocError> {
+    let alloc = rt.alloc();
+    let deadlines = match site.settings.period {
+        Some(period) => Deadlines::new(rt, period),
+        None => None,
+    };
+    let due = Due::new(alloc, clients)?;
+    let mut size = ChapterSize::new(alloc, site.robots, counted(clients), site.cells)?;
+    size.begin(open);
+    Ok(Round::new(deadlines, due, size))
+}
+
+/// What the tickers share, before the first thread, where this many errands are open.
 fn stage_of<N: OfficeName<Global>, R: Alloc<A = Global> + Clock, S: ChapterSink + Drop>(
     rt: &R,
     clients: Vec<Client>,
     pipes: usize,
     site: &Site,
+    open: u64,
     sink: S,
 ) -> Result<Stage<N, S>, AllocError>
     requires { AreOn N.rings (cores clients.items) }
+    ensures searches { IfOk result (λ stage. IsTrue stage.searches ↔ (IsSome site.now.settings.period × (65536 ≤ site.now.cells))) }
 {
     let alloc = rt.alloc();
-    let paced = site.settings.period.is_some();
-    let deadlines = match site.settings.period {
-        Some(period) => Deadlines::new(rt, period),
-        None => None,
-    };
-    let due = Due::new(alloc, clients.len())?;
+    let settings = &site.settings;
+    let paced = settings.period.is_some();
+    let round = round_of(rt, site, clients.len(), open)?;
     let conversations = conversations_of(alloc, clients, pipes, paced, &site.taken)?;
     let bell = new_bell(alloc)?;
     let counts = new_voice(alloc)?;
@@ -95,12 +128,18 @@ fn stage_of<N: OfficeName<Global>, R: Alloc<A = Global> + Clock, S: ChapterSink 
         figures: None,
         paced,
         chapter: site.chapter,
-        searches: paced && site.cells >= LARGE,
-        round: Mutex::new(Round::new(deadlines, due)),
+        chapter_bytes: settings.chapter_bytes,
+        service: settings.service,
+        searches: searches(settings, site.cells),
+        round: Mutex::new(round),
         archive: Mutex::new(Archive::new(alloc, sink)),
-        before: 0,
+        before: open,
         waiting: AtomicU64::new(0),
         kept: AtomicU64::new(0),
+        kept_at: AtomicU64::new(0),
+        began_at: wall_micros(rt),
+        period: settings.period,
+        version: settings.version,
     })
 }
 
@@ -155,7 +194,7 @@ fn start_all<
     let writer = start_writer(rt, &first.voice, bell, output)?;
     let _scribe = start_writer(rt, &stage.counts, bell, counts)?;
     start_pipes(rt, &stage.conversations, bell, paced, pipes)?;
-    start_listener(rt, first, bell, paced, input)?;
+    start_listener(rt, first, bell, (paced, stage.service), input)?;
     Ok(writer)
 }
 
@@ -218,8 +257,8 @@ fn begin<
     } = ends;
     let (settings, talk) = (&site.settings, (input, output));
     office.keep(rt, kept_bytes(site.cells));
-    let mut stage = stage_of(rt, clients, pipes.len(), site, sink)?;
-    stage.before = office.queues(rt).total;
+    let open = office.queues(rt).total;
+    let mut stage = stage_of(rt, clients, pipes.len(), site, open, sink)?;
     start_figures(rt, &mut stage, figures)?;
     start_chapters(rt, &stage, settings.keep_every)?;
     let writer = start_all(rt, &stage, settings.watch, talk, pipes, counts)?;

@@ -74,7 +74,7 @@ fn start_first<
 }
 
 /// Starts the threads of the first conversation: one reads its lines, and another does what they ask. Nobody waits for
-/// them.
+/// them. With a service the fleet goes on where there are no more lines.
 pub(crate) fn start_listener<
     N: OfficeName<Global> + Send + Sync + 'static,
     R: Alloc<A = Global> + Threads + Wait + Copy + Send + Drop + 'static,
@@ -83,7 +83,7 @@ pub(crate) fn start_listener<
     rt: &R,
     here: &Arc<Conversation<N>>,
     bell: &Arc<Bell>,
-    paced: bool,
+    (paced, service): (bool, bool),
     input: I,
 ) -> Result<(), AllocError> {
     let alloc = rt.alloc();
@@ -92,7 +92,9 @@ pub(crate) fn start_listener<
     };
     start_first(rt, here, &inbox, bell, paced)?;
     let (here, bell, own) = (Arc::try_clone(here)?, Arc::try_clone(bell)?, *rt);
-    match thread::spawn(rt, move || listen(&own, alloc, &here, &inbox, &bell, input)) {
+    match thread::spawn(rt, move || {
+        listen(&own, (alloc, service), &here, &inbox, &bell, input)
+    }) {
         Ok(_listener) => Ok(()),
         Err(_) => Err(AllocError),
     }

@@ -1,12 +1,11 @@
 -- The next chapter keeps the law of the lock.
 use Rattle.std.proofs.Common.{◌≡◌, ◌↔◌, ◌<◌, ◌≤◌, ◌⊎◌, ⊎_elim, ℕ, List, length, sym, ap, subst, arith, ◌∙◌}
 use Rattle.std.specs.Prelude.{Ok, Err, Result, Option, Some, None, OnErr, OnOk, IfOk, IfSome}
-use Rattle.fleet_grid.specs.Floor.{IsNeighbour}
-use Rattle.fleet_grid.specs.Walk.{IsBridgeless}
 use Rattle.fleet_history.specs.History.{History, history_of}
 use Rattle.fleet_history.specs.Laws.{EachTick}
 use Rattle.fleet_planner.specs.Planned.{IsPlanned, IsAdvancingTick}
 use Rattle.fleet_bound.specs.Bound.{WaitsAreBounded}
+use Rattle.fleet_bound.specs.Roomy.{AdvancesIfRoomy, HasBound}
 use Rattle.fleet_history.specs.Legal.{IsLegal}
 use Rattle.fleet_history.specs.declared.history.Chapter.{Chapter}
 use Rattle.fleet_history.proofs.Next.{next-clients}
@@ -53,8 +52,8 @@ some_is_none s = cc
 -- what is handed out is the chapter of a lawful hall
 pub handed : {A : Type 0} (rings : List (LaneName A)) (began : World A) (v : HallView A) (r : Result (Chapter A) ChapterFault) → IsLawful rings began v.world v.ends v.total →
     IfOk r (λ c. history_of c ≡ v.world.history) → IfOk r (λ c. c.number ≡ v.world.number) → OnOk r (EachTick (IsPlanned v.world.floor v.world.ties) v.world.history) →
-    OnOk r (IsBridgeless (IsNeighbour v.world.floor) → EachTick (IsAdvancingTick v.world.floor) v.world.history) →
-    OnOk r (IsBridgeless (IsNeighbour v.world.floor) → WaitsAreBounded v.world.floor v.world.history) →
+    OnOk r (AdvancesIfRoomy v.world.floor v.world.history) →
+    OnOk r (HasBound v.world.floor v.world.history → WaitsAreBounded v.world.floor v.world.history) →
     IfOk r (λ c. (h : HallView A) × IsChapterOf rings began h c.number (history_of c))
 handed rings began v (Ok c) lawful is number planned advancing bounded = (
   v,
@@ -63,8 +62,8 @@ handed rings began v (Ok c) lawful is number planned advancing bounded = (
     history = is;
     number = number;
     planned = subst (EachTick (IsPlanned v.world.floor v.world.ties)) (sym is) planned;
-    advancing = λ b. subst (EachTick (IsAdvancingTick v.world.floor)) (sym is) (advancing b);
-    bounded = λ b. subst (WaitsAreBounded v.world.floor) (sym is) (bounded b);
+    advancing = subst (AdvancesIfRoomy v.world.floor) (sym is) advancing;
+    bounded = subst (λ k. HasBound v.world.floor k → WaitsAreBounded v.world.floor k) (sym is) bounded;
   },
 )
 handed rings began v (Err e) lawful is number planned advancing bounded = tt
@@ -87,8 +86,8 @@ with-fact q h = ((λ x. (q, h.0 x)), (λ p. h.1 p.1))
 -- and is the chapter of a lawful hall
 pub grown-handed : {A E : Type 0} (rings : List (LaneName A)) (began : World A) (h g : HallView A) (r : Result (Option (Chapter A)) E) → IsLawful rings began h.world h.ends h.total →
     EachTick (IsPlanned h.world.floor h.world.ties) h.world.history →
-    (IsBridgeless (IsNeighbour h.world.floor) → EachTick (IsAdvancingTick h.world.floor) h.world.history) →
-    (IsBridgeless (IsNeighbour h.world.floor) → WaitsAreBounded h.world.floor h.world.history) →
+    AdvancesIfRoomy h.world.floor h.world.history →
+    (HasBound h.world.floor h.world.history → WaitsAreBounded h.world.floor h.world.history) →
     IfOk r (λ found. HandsOutGrown h found g) → IfOk r (λ found. IfSome found (λ c. (v : HallView A) × IsChapterOf rings began v c.number (history_of c)))
 grown-handed rings began h g (Ok None) lawful planned advancing bounded turned = tt
 grown-handed rings began h g (Ok (Some c)) lawful planned advancing bounded turned = (
@@ -98,8 +97,8 @@ grown-handed rings began h g (Ok (Some c)) lawful planned advancing bounded turn
     history = turned.0;
     number = turned.1;
     planned = subst (EachTick (IsPlanned h.world.floor h.world.ties)) (sym turned.0) planned;
-    advancing = λ b. subst (EachTick (IsAdvancingTick h.world.floor)) (sym turned.0) (advancing b);
-    bounded = λ b. subst (WaitsAreBounded h.world.floor) (sym turned.0) (bounded b);
+    advancing = subst (AdvancesIfRoomy h.world.floor) (sym turned.0) advancing;
+    bounded = subst (λ k. HasBound h.world.floor k → WaitsAreBounded h.world.floor k) (sym turned.0) bounded;
   },
 )
 grown-handed rings began h g (Err e) lawful planned advancing bounded turned = tt
@@ -119,8 +118,8 @@ module _ {A C E : Type 0} (w v : World A) (ends : List (EndView A)) (t : ℕ) wh
 -- what is left of a lawful hall is its chapter
 pub handed-last : {A : Type 0} (rings : List (LaneName A)) (began : World A) (v : HallView A) (h : History A) (n : ℕ) → IsLawful rings began v.world v.ends v.total →
     EachTick (IsPlanned v.world.floor v.world.ties) v.world.history →
-    (IsBridgeless (IsNeighbour v.world.floor) → EachTick (IsAdvancingTick v.world.floor) v.world.history) →
-    (IsBridgeless (IsNeighbour v.world.floor) → WaitsAreBounded v.world.floor v.world.history) →
+    AdvancesIfRoomy v.world.floor v.world.history →
+    (HasBound v.world.floor v.world.history → WaitsAreBounded v.world.floor v.world.history) →
     h ≡ v.world.history → n ≡ v.world.number → (hall : HallView A) × IsChapterOf rings began hall n h
 handed-last rings began v h n lawful planned advancing bounded is number = (
   v,
@@ -129,7 +128,7 @@ handed-last rings began v h n lawful planned advancing bounded is number = (
     history = is;
     number = number;
     planned = subst (EachTick (IsPlanned v.world.floor v.world.ties)) (sym is) planned;
-    advancing = λ none. subst (EachTick (IsAdvancingTick v.world.floor)) (sym is) (advancing none);
-    bounded = λ none. subst (WaitsAreBounded v.world.floor) (sym is) (bounded none);
+    advancing = subst (AdvancesIfRoomy v.world.floor) (sym is) advancing;
+    bounded = subst (λ k. HasBound v.world.floor k → WaitsAreBounded v.world.floor k) (sym is) bounded;
   },
 )

@@ -3,15 +3,15 @@ use Rattle.std.proofs.Common.{◌≡◌, ◌++◌, ℕ, List, sym, ap, ◌∙◌
 use Rattle.std.specs.Prelude.{slice_get, Vec, Result, Ok, Err, IfOk}
 use Rattle.std.proofs.lemmas.Option.{slice_get_within}
 use Rattle.fleet_book.specs.declared.notice.Notice.{Notice}
-use Rattle.fleet_grid.specs.Floor.{Floor, IsNeighbour}
-use Rattle.fleet_grid.specs.Walk.{IsBridgeless}
+use Rattle.fleet_grid.specs.Floor.{Floor}
 use Rattle.fleet_history.specs.History.{History, client_at}
 use Rattle.fleet_history.specs.Legal.{IsLegal}
 use Rattle.fleet_history.specs.Laws.{EachTick, orders}
 use Rattle.fleet_history.specs.Notices.{notices}
 use Rattle.fleet_history.specs.Rings.{KeepsRing}
-use Rattle.fleet_planner.specs.Planned.{IsPlanned, IsAdvancingTick}
+use Rattle.fleet_planner.specs.Planned.{IsPlanned}
 use Rattle.fleet_bound.specs.Bound.{WaitsAreBounded}
+use Rattle.fleet_bound.specs.Roomy.{AdvancesIfRoomy, HasBound}
 use Rattle.fleet_core.specs.Core.{World, pending}
 use Rattle.fleet_lanes.specs.Names.{LaneName}
 use Rattle.fleet_lanes.specs.Ends.{EndView, ClientView}
@@ -32,13 +32,13 @@ module _ {A : Type 0} (w v : World A) (m : Floor) (h : History A) (floor : m ≡
   planned-ended p = subst (λ t. EachTick (IsPlanned m t) h) same.ties
       (subst (λ k. EachTick (IsPlanned m v.ties) k) (sym history) (subst (λ k. EachTick (IsPlanned k v.ties) v.history) (sym floor) p))
 
-  pub advancing-ended : (IsBridgeless (IsNeighbour v.floor) → EachTick (IsAdvancingTick v.floor) v.history) → IsBridgeless (IsNeighbour m) → EachTick (IsAdvancingTick m) h
-  advancing-ended p = subst (λ k. IsBridgeless (IsNeighbour m) → EachTick (IsAdvancingTick m) k) (sym history)
-      (subst (λ k. IsBridgeless (IsNeighbour k) → EachTick (IsAdvancingTick k) v.history) (sym floor) p)
+  pub advancing-ended : AdvancesIfRoomy v.floor v.history → AdvancesIfRoomy m h
+  advancing-ended p = subst (λ k. AdvancesIfRoomy m k) (sym history)
+      (subst (λ k. AdvancesIfRoomy k v.history) (sym floor) p)
 
-  pub bounded-ended : (IsBridgeless (IsNeighbour v.floor) → WaitsAreBounded v.floor v.history) → IsBridgeless (IsNeighbour m) → WaitsAreBounded m h
-  bounded-ended p = subst (λ k. IsBridgeless (IsNeighbour m) → WaitsAreBounded m k) (sym history)
-      (subst (λ k. IsBridgeless (IsNeighbour k) → WaitsAreBounded k v.history) (sym floor) p)
+  pub bounded-ended : (HasBound v.floor v.history → WaitsAreBounded v.floor v.history) → HasBound m h → WaitsAreBounded m h
+  bounded-ended p = subst (λ k. HasBound m k → WaitsAreBounded m k) (sym history)
+      (subst (λ k. HasBound k v.history → WaitsAreBounded k v.history) (sym floor) p)
 
 module _ {A : Type 0} (rings : List (LaneName A)) (began : World A) (w : World A) (ends : List (EndView A)) (t : ℕ) (law : IsLawful rings began w ends t) where
   -- what each client was told, once its lane is empty

@@ -1,13 +1,13 @@
 //! How an office goes from one chapter of its history to the next.
 
 ghost use Rattle.std.specs.Prelude.{◌≡◌, ◌+◌, ◌<◌, ◌≤◌, ◌^◌, ◌↔◌, length, None, Ok, Err, OnOk, OnErr, IfOk, IfSome};
-ghost use Rattle.fleet_grid.specs.Floor.{Floor, IsNeighbour};
-ghost use Rattle.fleet_grid.specs.Walk.{IsBridgeless};
+ghost use Rattle.fleet_grid.specs.Floor.{Floor};
 ghost use Rattle.fleet_history.specs.History.{clock, history_of};
 ghost use Rattle.fleet_history.specs.Laws.{EachTick};
 ghost use Rattle.fleet_history.specs.Legal.{IsLegal};
-ghost use Rattle.fleet_planner.specs.Planned.{IsPlanned, IsAdvancingTick};
+ghost use Rattle.fleet_planner.specs.Planned.{IsPlanned};
 ghost use Rattle.fleet_bound.specs.Bound.{WaitsAreBounded};
+ghost use Rattle.fleet_bound.specs.Roomy.{AdvancesIfRoomy, HasBound};
 ghost use Rattle.fleet_office.specs.Chapters.{IsChapterOf, HandsOutGrown};
 ghost use Rattle.fleet_office.specs.Hall.{HallView, IsLawful, next_hall};
 
@@ -28,8 +28,8 @@ impl<N: OfficeName<A>, A: Allocator + Copy> HallState<N, A> {
         ensures number { IfOk result (λ chapter. chapter.number ≡ self.old.world.number) }
         ensures legal { OnOk result (IsLegal self.old.world.floor self.old.world.history) }
         ensures planned { OnOk result (EachTick (IsPlanned self.old.world.floor self.old.world.ties) self.old.world.history) }
-        ensures advancing { OnOk result (IsBridgeless (IsNeighbour self.old.world.floor) → EachTick (IsAdvancingTick self.old.world.floor) self.old.world.history) }
-        ensures bounded { OnOk result (IsBridgeless (IsNeighbour self.old.world.floor) → WaitsAreBounded self.old.world.floor self.old.world.history) }
+        ensures advancing { OnOk result (AdvancesIfRoomy self.old.world.floor self.old.world.history) }
+        ensures bounded { OnOk result (HasBound self.old.world.floor self.old.world.history → WaitsAreBounded self.old.world.floor self.old.world.history) }
         ensures next { OnOk result (self.new ≡ next_hall self.old) }
         ensures err { OnErr result (self.new ≡ self.old) }
     {
@@ -85,8 +85,8 @@ impl<N: OfficeName<A>, A: Allocator + Copy> Hall<N, A> {
         ensures number { IfOk result (λ chapter. chapter.number ≡ self.old.state.world.number) }
         ensures legal { OnOk result (IsLegal self.old.state.world.floor self.old.state.world.history) }
         ensures planned { OnOk result (EachTick (IsPlanned self.old.state.world.floor self.old.state.world.ties) self.old.state.world.history) }
-        ensures advancing { OnOk result (IsBridgeless (IsNeighbour self.old.state.world.floor) → EachTick (IsAdvancingTick self.old.state.world.floor) self.old.state.world.history) }
-        ensures bounded { OnOk result (IsBridgeless (IsNeighbour self.old.state.world.floor) → WaitsAreBounded self.old.state.world.floor self.old.state.world.history) }
+        ensures advancing { OnOk result (AdvancesIfRoomy self.old.state.world.floor self.old.state.world.history) }
+        ensures bounded { OnOk result (HasBound self.old.state.world.floor self.old.state.world.history → WaitsAreBounded self.old.state.world.floor self.old.state.world.history) }
         ensures next { OnOk result (self.new.state ≡ next_hall self.old.state) }
         ensures err { OnErr result (self.new.state ≡ self.old.state) }
     {

@@ -3,12 +3,11 @@
 ghost use Rattle.std.specs.Prelude.{◌≡◌, ◌+◌, ◌<◌, ◌≤◌, ◌^◌, ◌↔◌, true, false, ℕ, length, Some, None, Err, IfOk, IfErr, IfSome, OnOk, OnErr, slice_get};
 ghost use Rattle.fleet_history.specs.History.{clock, place, robots, is_shut, history_of};
 ghost use Rattle.std.specs.List.{sum_by};
-ghost use Rattle.fleet_grid.specs.Floor.{IsNeighbour};
-ghost use Rattle.fleet_grid.specs.Walk.{IsBridgeless};
 ghost use Rattle.fleet_history.specs.Legal.{IsLegal};
 ghost use Rattle.fleet_history.specs.Laws.{EachTick};
-ghost use Rattle.fleet_planner.specs.Planned.{IsPlanned, IsAdvancingTick};
+ghost use Rattle.fleet_planner.specs.Planned.{IsPlanned};
 ghost use Rattle.fleet_bound.specs.Bound.{KeepsBound, WaitsAreBounded};
+ghost use Rattle.fleet_bound.specs.Roomy.{AdvancesIfRoomy, HasBound};
 ghost use Rattle.fleet_core.specs.Core.{Shuts, HasRoom, HasNoRoom, HasEntries, HasNoEntries};
 ghost use Rattle.fleet_office.specs.Views.{TickerView};
 ghost use Rattle.fleet_office.specs.Hall.{HallView, IsLawful, ShowsOrder, TakesOne, GivesOne, GivesAll, given_count, TakesSome, TakesUntil, TakesFirst, StopsTaking, TicksOnce, Turns, StopsTurn, Looks};
@@ -58,9 +57,9 @@ impl<N: OfficeName<A>, A: Allocator + Copy> HallState<N, A> {
     pub fn recall_laws(&self)
         ensures lawful { IsLawful N.rings N.start self.now.world self.now.ends self.now.total }
         ensures planned { EachTick (IsPlanned self.now.world.floor self.now.world.ties) self.now.world.history }
-        ensures advancing { IsBridgeless (IsNeighbour self.now.world.floor) → EachTick (IsAdvancingTick self.now.world.floor) self.now.world.history }
-        ensures bounded { IsBridgeless (IsNeighbour self.now.world.floor) → WaitsAreBounded self.now.world.floor self.now.world.history }
-        ensures keeps_bound { IsBridgeless (IsNeighbour self.now.world.floor) → KeepsBound self.now.world.floor self.now.world.history }
+        ensures advancing { AdvancesIfRoomy self.now.world.floor self.now.world.history }
+        ensures bounded { HasBound self.now.world.floor self.now.world.history → WaitsAreBounded self.now.world.floor self.now.world.history }
+        ensures keeps_bound { HasBound self.now.world.floor self.now.world.history → KeepsBound self.now.world.floor self.now.world.history }
     {
         let _ = self.core.chapter();
     }

@@ -2,13 +2,12 @@
 
 ghost use Rattle.std.specs.Prelude.{◌≡◌, ◌+◌, ◌<◌, ◌≤◌, ◌^◌, ◌↔◌, length, Err, IfOk, IfErr, IfSome, OnOk, OnErr};
 ghost use Rattle.std.specs.List.{sum_by};
-ghost use Rattle.fleet_grid.specs.Floor.{IsNeighbour};
-ghost use Rattle.fleet_grid.specs.Walk.{IsBridgeless};
 ghost use Rattle.fleet_history.specs.History.{history_of, clock};
 ghost use Rattle.fleet_history.specs.Legal.{IsLegal};
 ghost use Rattle.fleet_history.specs.Laws.{EachTick};
-ghost use Rattle.fleet_planner.specs.Planned.{IsPlanned, IsAdvancingTick};
+ghost use Rattle.fleet_planner.specs.Planned.{IsPlanned};
 ghost use Rattle.fleet_bound.specs.Bound.{WaitsAreBounded};
+ghost use Rattle.fleet_bound.specs.Roomy.{AdvancesIfRoomy, HasBound};
 ghost use Rattle.fleet_core.specs.Hooks.{laws_of};
 ghost use Rattle.fleet_core.specs.OpeningFaults.{IsRefused, IsNamed as IsNamedFault};
 ghost use Rattle.fleet_office.specs.Views.{IsNamed, AreOn, AreDistinct, cores, world_at};
@@ -102,8 +101,8 @@ impl<N: OfficeName<A>, A: Allocator + Copy> Office<N, A> {
         ensures legal { IfOk result (λ f. IsLegal f.grid (history_of f.chapter)) }
         ensures since { IfOk result (λ f. IsChapterSince N.start f.grid f.chapter.number (history_of f.chapter)) }
         ensures planned { IfOk result (λ f. EachTick (IsPlanned f.grid N.start.ties) (history_of f.chapter)) }
-        ensures advancing { IfOk result (λ f. IsBridgeless (IsNeighbour f.grid) → EachTick (IsAdvancingTick f.grid) (history_of f.chapter)) }
-        ensures bounded { IfOk result (λ f. IsBridgeless (IsNeighbour f.grid) → WaitsAreBounded f.grid (history_of f.chapter)) }
+        ensures advancing { IfOk result (λ f. AdvancesIfRoomy f.grid (history_of f.chapter)) }
+        ensures bounded { IfOk result (λ f. HasBound f.grid (history_of f.chapter) → WaitsAreBounded f.grid (history_of f.chapter)) }
         ensures told { IfOk result (λ f. AreTold N.start f.chapter.number (history_of f.chapter) clients.items f.rest.items) }
         ensures tick { IfOk result (λ f. (f.tick ≡ clock (history_of f.chapter)) × (f.tick ≡ sum_by (λ t. t.count) tickers.items)) }
         ensures all { OnOk result (HasAll (length N.rings) clients.items) }

@@ -2,7 +2,8 @@
 use Rattle.std.proofs.Common.{◌≡◌, ℕ, ◌<◌, ◌⊎◌, inl, inr, Option, Some, None, List, [], ◌∷◌, sym, subst, refl, ap}
 use Rattle.std.proofs.lemmas.Bool.{cases_eq}
 use Rattle.fleet_pibt.specs.inside.Plan.{Failed, Written, Distinct}
-use Rattle.fleet_grid.specs.Walk.{Walks, Besides, IsBridge}
+use Rattle.fleet_grid.specs.Walk.{Walks, Besides, IsBridge, IsOnSide}
+use Rattle.fleet_grid.proofs.Walks.{walk_back, besides_back}
 use Rattle.fleet_pibt.proofs.Reserve.{none_or_some}
 
 -- a set that a relation leads back into has the start of each walk that ends in it
@@ -71,3 +72,11 @@ module _ (Near : ℕ → ℕ → Type 0) (near-sym : (a b : ℕ) → Near a b �
         let same : inside.0 ≡ e = distinct _ _ inside.2 small inside.1 in
         cc (wt1.at, inside.3, ap t1 same));
   }
+
+  -- each cell beyond that edge holds a robot
+  pub closed-full : (c : ℕ) → IsOnSide Near (from e) (from k) c → (r : ℕ) × (r < n) × (from r ≡ c)
+  unfolding Inside
+  closed-full c side =
+      let back = walk_back (Besides Near (from e) (from k)) (besides_back Near near-sym (from e) (from k)) (from k) c side.steps side.walk in
+      let inside = Walks-closed (Besides Near (from e) (from k)) Inside closed-back back.0 c (from k) back.1 closed-start in
+      (inside.0, inside.2, inside.1)

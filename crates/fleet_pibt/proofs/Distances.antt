@@ -11,7 +11,7 @@ use Rattle.fleet_pibt.specs.Goals.{aim, AreGoals}
 use Rattle.fleet_pibt.specs.inside.Setting.{Setting, robots, cell_of, near, cost, cost_with, IsScene}
 use Rattle.fleet_pibt.proofs.Reserve.{none_or_some}
 
-near-sym : (m : Floor) (a b : ℕ) (dir : Dir) → IsNeighbourIn m dir a b → IsNeighbour m b a
+pub near-sym : (m : Floor) (a b : ℕ) (dir : Dir) → IsNeighbourIn m dir a b → IsNeighbour m b a
 near-sym m a b North h = (South, record { from = h.to; to = h.from; beside = h.beside })
 near-sym m a b East h = (West, record { from = h.to; to = h.from; beside = h.beside })
 near-sym m a b South h = (North, record { from = h.to; to = h.from; beside = h.beside })

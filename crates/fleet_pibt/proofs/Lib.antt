@@ -19,3 +19,5 @@ pub mod Seen
 pub mod Rated
 pub mod Spots
 pub mod Precedences
+pub mod Roomy
+pub mod Exact

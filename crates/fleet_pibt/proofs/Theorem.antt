@@ -3,9 +3,9 @@ use Rattle.std.proofs.Common.{◌≡◌, ◌≢◌, ℕ, zero, suc, ◌<◌, ◌
 use Rattle.std.proofs.lemmas.Bool.{cases_eq}
 use Rattle.fleet_grid.specs.Floor.{IsFloor, IsNeighbourIn}
 use Rattle.fleet_grid.specs.Step.{IsConflictFree}
-use Rattle.fleet_grid.specs.Walk.{IsDistance, IsBridge}
+use Rattle.fleet_grid.specs.Walk.{IsDistance}
 use Rattle.fleet_hooks.specs.declared.law.TieLaw.{TieLaw}
-use Rattle.fleet_pibt.specs.Advancing.{Advances, IsOpenAhead}
+use Rattle.fleet_pibt.specs.Advancing.{Advances, HasWayAhead, IsFullBeyond}
 use Rattle.fleet_pibt.specs.inside.Entry.{table}
 use Rattle.fleet_pibt.specs.Goals.{aim, IsNearer, AreGoals}
 use Rattle.fleet_pibt.specs.inside.Plan.{Pulled, Tidy, Written}
@@ -16,7 +16,7 @@ use Rattle.fleet_pibt.specs.inside.Setting.{Setting, robots, cell_of, near, cost
 use Rattle.fleet_pibt.specs.inside.Setting.Refused.{was_shut, pushed}
 use Rattle.fleet_pibt.specs.Ties.{IsByLaw}
 use Rattle.fleet_pibt.proofs.Reserve.{none_or_some}
-use Rattle.fleet_pibt.proofs.Closed.{closed-bridge}
+use Rattle.fleet_pibt.proofs.Closed.{closed-bridge, closed-full}
 use Rattle.fleet_pibt.proofs.Planning.{Written-set, scene-distinct}
 use Rattle.fleet_pibt.proofs.Distances.{near-back, near-apart, distance-unique, distance-step, distance-ahead, distance-none, cost-own, cost-beside}
 
@@ -112,19 +112,22 @@ module _ (s : Setting) (scene : IsScene s) (waits : List (Option ℕ)) (are : Ar
     first = choices.each 0 (omega (arith, choices.five))
 
     -- its first choice was refused: a robot stands there, and the edge is a bridge
-    refused : Refused s chosen.2 chosen.3 eldest (slice_index cells 0) → (k : ℕ) × Stands s k (slice_index cells 0) × (near s (cell_of s eldest) (slice_index cells 0) → IsBridge (near s) (cell_of s eldest) (slice_index cells 0)) × (slice_index cells 0 ≢ cell_of s eldest)
+    refused : Refused s chosen.2 chosen.3 eldest (slice_index cells 0) → (k : ℕ) × Stands s k (slice_index cells 0) × (near s (cell_of s eldest) (slice_index cells 0) → IsFullBeyond s.floor s.from (cell_of s eldest) (slice_index cells 0)) × (slice_index cells 0 ≢ cell_of s eldest)
     refused r = go (slice_index cells 0) refl r
       where
-        go : (c : ℕ) → slice_index cells 0 ≡ c → Refused s chosen.2 chosen.3 eldest c → (k : ℕ) × Stands s k c × (near s (cell_of s eldest) c → IsBridge (near s) (cell_of s eldest) c) × (c ≢ cell_of s eldest)
+        go : (c : ℕ) → slice_index cells 0 ≡ c → Refused s chosen.2 chosen.3 eldest c → (k : ℕ) × Stands s k c × (near s (cell_of s eldest) c → IsFullBeyond s.floor s.from (cell_of s eldest) c) × (c ≢ cell_of s eldest)
         go c is (was_shut shut) = let j = shut (chosen.5 c) in absurd (cc (j.1, chosen.4 j.0))
         go c is (pushed k t2 h2 stands failed) =
             let t1 : List (Option ℕ) = slice_set chosen.2 eldest (Some c) in
             let w : Written (table chosen.2) eldest (Some c) (table t1) = Written-set chosen.2 eldest (Some c) (omega (arith, small, chosen.6.was)) in
             let w' : Written (table chosen.2) eldest (Some (cell_of s k)) (table t1) = subst (λ (x : ℕ). Written (table chosen.2) eldest (Some x) (table t1)) (sym stands.1) w in
-            let bridge : near s (cell_of s eldest) (cell_of s k) → IsBridge (near s) (cell_of s eldest) (cell_of s k) = closed-bridge (near s) (near-back s) (robots s) (cell_of s) (cost s) (scene-distinct s scene) (table chosen.2) eldest k (table t1) (table (slice_set chosen.3 c (Some eldest))) (table t2) (table h2) chosen.4 small stands.0 w' failed in (
+            let bridge : near s (cell_of s eldest) (cell_of s k) → IsFullBeyond s.floor s.from (cell_of s eldest) (cell_of s k) = λ n. record {
+              bridge = closed-bridge (near s) (near-back s) (robots s) (cell_of s) (cost s) (scene-distinct s scene) (table chosen.2) eldest k (table t1) (table (slice_set chosen.3 c (Some eldest))) (table t2) (table h2) chosen.4 small stands.0 w' failed n;
+              full = closed-full (near s) (near-back s) (robots s) (cell_of s) (cost s) (scene-distinct s scene) (table chosen.2) eldest k (table t1) (table (slice_set chosen.3 c (Some eldest))) (table t2) (table h2) chosen.4 small stands.0 w' failed;
+            } in (
               k,
               stands,
-              subst (λ (x : ℕ). near s (cell_of s eldest) x → IsBridge (near s) (cell_of s eldest) x) stands.1 bridge,
+              subst (λ (x : ℕ). near s (cell_of s eldest) x → IsFullBeyond s.floor s.from (cell_of s eldest) x) stands.1 bridge,
               λ e.
                   let it : k ≡ eldest = scene-distinct s scene k eldest stands.0 small (cc (stands.1)) in
                   cc (failed.grown.keep eldest c w.at, failed.grown.idle, ap (table t2) it),
@@ -169,7 +172,7 @@ module _ (s : Setting) (scene : IsScene s) (waits : List (Option ℕ)) (are : Ar
     away-nearer d e = nearer-cost eldest _ _ small first (inl refl) (let le = away-first d e in omega arith)
 
     -- it has its first choice
-    pub first-taken : IsOpenAhead s.floor s.from (aim s.from s.goals eldest) (cell_of s eldest) → slice_index to eldest ≡ slice_index cells 0
+    pub first-taken : HasWayAhead s.floor s.from (aim s.from s.goals eldest) (cell_of s eldest) → slice_index to eldest ≡ slice_index cells 0
     first-taken ahead_open = elim ((chosen.6.tried some).2) [
       | inl e ↦ (cc (goes eldest small))
       | inr r ↦ (
@@ -177,14 +180,11 @@ module _ (s : Setting) (scene : IsScene s) (waits : List (Option ℕ)) (are : Ar
           absurd (go D refl it))
     ]
       where
-        go : (d : ℕ) → D ≡ d → ((k : ℕ) × Stands s k (slice_index cells 0) × (near s (cell_of s eldest) (slice_index cells 0) → IsBridge (near s) (cell_of s eldest) (slice_index cells 0)) × (slice_index cells 0 ≢ cell_of s eldest)) → ⊥
+        go : (d : ℕ) → D ≡ d → ((k : ℕ) × Stands s k (slice_index cells 0) × (near s (cell_of s eldest) (slice_index cells 0) → IsFullBeyond s.floor s.from (cell_of s eldest) (slice_index cells 0)) × (slice_index cells 0 ≢ cell_of s eldest)) → ⊥
         go zero e it = it.3 (home-first e)
-        go (suc d) e it = elim (ahead_open (slice_index cells 0) (first-near it.3) (away-nearer d e)) [
-          | inl free ↦ free it.0 it.1.0 it.1.1
-          | inr open_edge ↦ open_edge (it.2 (first-near it.3))
-        ]
+        go (suc d) e it = ahead_open (slice_index cells 0) (first-near it.3) (away-nearer d e) (it.2 (first-near it.3))
 
-    pub advanced : IsOpenAhead s.floor s.from (aim s.from s.goals eldest) (cell_of s eldest) → Advances s.floor (aim s.from s.goals eldest) (cell_of s eldest) (slice_index to eldest)
+    pub advanced : HasWayAhead s.floor s.from (aim s.from s.goals eldest) (cell_of s eldest) → Advances s.floor (aim s.from s.goals eldest) (cell_of s eldest) (slice_index to eldest)
     unfolding D
     advanced ahead_open = go D refl
       where
@@ -206,7 +206,7 @@ module _ (s : Setting) (scene : IsScene s) (waits : List (Option ℕ)) (are : Ar
               subst (λ (x : ℕ). IsDistance (near s) x (aim s.from s.goals eldest) d) (sym at) (subst (λ (x : ℕ). IsDistance (near s) (slice_index cells 0) (aim s.from s.goals eldest) x) is one),
             )
 
-    pub by-law : IsOpenAhead s.floor s.from (aim s.from s.goals eldest) (cell_of s eldest) → (law : TieLaw) → slice_get s.laws eldest ≡ Some law →
+    pub by-law : HasWayAhead s.floor s.from (aim s.from s.goals eldest) (cell_of s eldest) → (law : TieLaw) → slice_get s.laws eldest ≡ Some law →
         IsByLaw s.floor law (aim s.from s.goals eldest) (cell_of s eldest) (slice_index to eldest)
     by-law ahead_open law is d e b step closer other closer_b under =
         let at = first-taken ahead_open in
@@ -223,14 +223,14 @@ module _ (s : Setting) (scene : IsScene s) (waits : List (Option ℕ)) (are : Ar
   aim-is : aim s.from s.goals e ≡ g
   aim-is = ap (λ (o : Option ℕ). unwrap_or o (cell_of s e)) is
 
-  pub advances-at : IsOpenAhead s.floor s.from g (cell_of s e) → Advances s.floor g (cell_of s e) (slice_index to e)
+  pub advances-at : HasWayAhead s.floor s.from g (cell_of s e) → Advances s.floor g (cell_of s e) (slice_index to e)
   advances-at =
-      subst (λ (x : ℕ). IsOpenAhead s.floor s.from x (cell_of s e) → Advances s.floor x (cell_of s e) (slice_index to e)) aim-is
-      (subst (λ (x : ℕ). IsOpenAhead s.floor s.from (aim s.from s.goals x) (cell_of s x) → Advances s.floor (aim s.from s.goals x) (cell_of s x) (slice_index to x)) first.1
+      subst (λ (x : ℕ). HasWayAhead s.floor s.from x (cell_of s e) → Advances s.floor x (cell_of s e) (slice_index to e)) aim-is
+      (subst (λ (x : ℕ). HasWayAhead s.floor s.from (aim s.from s.goals x) (cell_of s x) → Advances s.floor (aim s.from s.goals x) (cell_of s x) (slice_index to x)) first.1
       (advanced s scene waits are queue to same names chosen first.0))
 
-  pub by-law-at : IsOpenAhead s.floor s.from g (cell_of s e) → (law : TieLaw) → slice_get s.laws e ≡ Some law → IsByLaw s.floor law g (cell_of s e) (slice_index to e)
+  pub by-law-at : HasWayAhead s.floor s.from g (cell_of s e) → (law : TieLaw) → slice_get s.laws e ≡ Some law → IsByLaw s.floor law g (cell_of s e) (slice_index to e)
   by-law-at =
-      subst (λ (x : ℕ). IsOpenAhead s.floor s.from x (cell_of s e) → (law : TieLaw) → slice_get s.laws e ≡ Some law → IsByLaw s.floor law x (cell_of s e) (slice_index to e)) aim-is
-      (subst (λ (x : ℕ). IsOpenAhead s.floor s.from (aim s.from s.goals x) (cell_of s x) → (law : TieLaw) → slice_get s.laws x ≡ Some law → IsByLaw s.floor law (aim s.from s.goals x) (cell_of s x) (slice_index to x)) first.1
+      subst (λ (x : ℕ). HasWayAhead s.floor s.from x (cell_of s e) → (law : TieLaw) → slice_get s.laws e ≡ Some law → IsByLaw s.floor law x (cell_of s e) (slice_index to e)) aim-is
+      (subst (λ (x : ℕ). HasWayAhead s.floor s.from (aim s.from s.goals x) (cell_of s x) → (law : TieLaw) → slice_get s.laws x ≡ Some law → IsByLaw s.floor law (aim s.from s.goals x) (cell_of s x) (slice_index to x)) first.1
       (by-law s scene waits are queue to same names chosen first.0))

@@ -6,6 +6,7 @@ mod around;
 mod board;
 mod choice;
 mod goals;
+pub mod law;
 mod on_map;
 mod plan;
 mod priority;

@@ -4,7 +4,7 @@ ghost use Rattle.std.specs.Prelude.{IfOk, OnOk, ◌≡◌, ℕ, ◌<◌, ◌≤�
 ghost use Rattle.fleet_grid.specs.Floor.{HasForm, IsFloor, IsNeighbour};
 ghost use Rattle.fleet_grid.specs.Step.{IsPlacement, IsConflictFree};
 ghost use Rattle.fleet_grid.specs.Walk.{IsBridgeless};
-ghost use Rattle.fleet_pibt.specs.Advancing.{Advances, IsAdvancing, IsOpenAhead};
+ghost use Rattle.fleet_pibt.specs.Advancing.{Advances, IsAdvancing, HasWayAhead};
 ghost use Rattle.fleet_pibt.specs.Eldest.{IsEldest};
 ghost use Rattle.fleet_pibt.specs.Goals.{AreGoals};
 ghost use Rattle.fleet_pibt.specs.Order.{IsOrder, IsRoll};
@@ -100,11 +100,11 @@ impl<A: Allocator + Copy> Stepper<A> {
         ensures conflict_free { IsConflictFree grid.now from.now to.new }
         ensures purposeful { IsPurposeful grid.now (G.goal_of goals.now) from.now to.new }
         ensures advances { (e g : ℕ) → IsEldest waits.now e → G.goal_of goals.now e ≡ Some g →
-            IsOpenAhead grid.now from.now g (slice_index from.now e) →
+            HasWayAhead grid.now from.now g (slice_index from.now e) →
             Advances grid.now g (slice_index from.now e) (slice_index to.new e) }
         ensures bridgeless { IsBridgeless (IsNeighbour grid.now) → IsAdvancing grid.now waits.now (G.goal_of goals.now) from.now to.new }
         ensures by_law { (e g : ℕ) (law : _) → IsEldest waits.now e → G.goal_of goals.now e ≡ Some g →
-            IsOpenAhead grid.now from.now g (slice_index from.now e) →
+            HasWayAhead grid.now from.now g (slice_index from.now e) →
             slice_get (map (λ h. h.law) ties.now) e ≡ Some law →
             IsByLaw grid.now law g (slice_index from.now e) (slice_index to.new e) }
     {

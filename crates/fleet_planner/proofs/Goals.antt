@@ -1,5 +1,5 @@
 -- What a world keeps, waits, aims and cells, is what a step by priority inheritance asks for.
-use Rattle.std.proofs.Common.{◌≡◌, ℕ, ◌<◌, ◌↔◌, List, length, Option, Some, None, IsSome, sym, refl, ap, ◌∙◌, subst, arith, inr, slice_index, slice_index_or}
+use Rattle.std.proofs.Common.{◌≡◌, ℕ, ◌<◌, ◌↔◌, List, length, Option, Some, None, IsSome, sym, refl, ap, ◌∙◌, subst, arith, slice_index, slice_index_or}
 use Rattle.std.specs.Prelude.{slice_get}
 use Rattle.std.proofs.Math.Path.{fun_ext}
 use Rattle.fleet_grid.specs.Floor.{Floor, IsNeighbour}
@@ -17,7 +17,7 @@ use Rattle.fleet_pibt.specs.Goals.{AreGoals}
 use Rattle.fleet_pibt.specs.Order.{wait_of}
 use Rattle.fleet_pibt.specs.Eldest.{IsEldest}
 use Rattle.fleet_pibt.specs.Purposeful.{IsPurposeful}
-use Rattle.fleet_pibt.specs.Advancing.{Advances, IsAdvancing, IsOpenAhead}
+use Rattle.fleet_pibt.specs.Advancing.{Advances, IsAdvancing, HasWayAhead}
 use Rattle.fleet_pibt.specs.Ties.{IsByLaw}
 use Rattle.fleet_planner.specs.Planned.{waits, goals, goal_of, cell_of, IsPlannedBy}
 use Rattle.fleet_planner.proofs.Lists.{item_of}
@@ -48,4 +48,9 @@ kept_goals m h aims legal same =
 -- on a bridgeless map a planned tick advances
 pub planned-advances : (m : Floor) (ties : List TieLaw) (ws gs : List (Option ℕ)) (from to : List ℕ) → IsBridgeless (IsNeighbour m) →
     IsPlannedBy m ties ws gs from to → IsAdvancing m ws (goal_of gs) from to
-planned-advances m ties ws gs from to none planned e g eldest is = planned.advances e g eldest is (λ w near nearer. inr (none (slice_index from e) w))
+planned-advances m ties ws gs from to none planned e g eldest is = planned.advances e g eldest is (λ w near nearer full. none (slice_index from e) w full.bridge)
+
+-- so does one before which the eldest has a way ahead
+pub planned-way : (m : Floor) (ties : List TieLaw) (ws gs : List (Option ℕ)) (from to : List ℕ) → ((e g : ℕ) → IsEldest ws e → goal_of gs e ≡ Some g → HasWayAhead m from g (slice_index from e)) →
+    IsPlannedBy m ties ws gs from to → IsAdvancing m ws (goal_of gs) from to
+planned-way m ties ws gs from to way planned e g eldest is = planned.advances e g eldest is (way e g eldest is)

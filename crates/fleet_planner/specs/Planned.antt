@@ -9,7 +9,7 @@ use Rattle.fleet_history.specs.History.{History, robots, place, front}
 use Rattle.fleet_history.specs.Waits.{wait}
 use Rattle.fleet_pibt.specs.Eldest.{IsEldest}
 use Rattle.fleet_pibt.specs.Purposeful.{IsPurposeful}
-use Rattle.fleet_pibt.specs.Advancing.{Advances, IsAdvancing, IsOpenAhead}
+use Rattle.fleet_pibt.specs.Advancing.{Advances, IsAdvancing, HasWayAhead}
 use Rattle.fleet_pibt.specs.Ties.{IsByLaw}
 
 -- the waits of the robots
@@ -31,11 +31,11 @@ goal_of gs r = slice_index_or gs r None
 pub record IsPlannedBy (m : Floor) (ties : List TieLaw) (ws gs : List (Option ℕ)) (from to : List ℕ) : Type 0 where
   -- no free nearer cell is passed over, and who steps away was pushed by one that comes nearer
   pub purposeful : IsPurposeful m (goal_of gs) from to
-  -- the eldest comes nearer, unless a bridge is in the way
-  pub advances : (e g : ℕ) → IsEldest ws e → goal_of gs e ≡ Some g → IsOpenAhead m from g (slice_index from e) →
+  -- the eldest comes nearer, unless a robot stands on each cell beyond a bridge in its way
+  pub advances : (e g : ℕ) → IsEldest ws e → goal_of gs e ≡ Some g → HasWayAhead m from g (slice_index from e) →
       Advances m g (slice_index from e) (slice_index to e)
   -- where it does, its tie law decides between nearer cells
-  pub by_law : (e g : ℕ) (law : TieLaw) → IsEldest ws e → goal_of gs e ≡ Some g → IsOpenAhead m from g (slice_index from e) →
+  pub by_law : (e g : ℕ) (law : TieLaw) → IsEldest ws e → goal_of gs e ≡ Some g → HasWayAhead m from g (slice_index from e) →
       slice_get ties e ≡ Some law → IsByLaw m law g (slice_index from e) (slice_index to e)
 
 -- a tick that is planned

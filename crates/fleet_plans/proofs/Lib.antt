@@ -12,10 +12,8 @@ pub mod Pieces
 mod Turns
 pub mod Grammar
 mod Tables
-mod Stays
 mod Schedules
-mod Drafts
-mod Rests
+mod Scheduled
 mod Seatings
 mod Going
 mod Leading

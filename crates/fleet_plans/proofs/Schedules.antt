@@ -1,279 +1,231 @@
--- What is read of YAML is what its lines say.
-use Rattle.std.proofs.Common.{◌≡◌, ◌∙◌, ℕ, ◌+◌, ◌-◌, ◌⊎◌, inl, inr, Bool, true, false, List, [], ◌∷◌, ◌++◌, length, Option, Some, None, Result, Ok, Err, refl, sym, ap, subst, arith, append_assoc, append-nil}
-use Rattle.std.specs.Prelude.{◌&&◌, ◌||◌, not, if◌then◌else◌, nat_lt}
+-- What is read of YAML is what its lines say, and each text of which that holds is read.
+use Rattle.std.proofs.Common.{◌≡◌, ◌∙◌, ℕ, ◌+◌, ◌-◌, ◌≤◌, Bool, true, false, List, [], ◌∷◌, ◌++◌, length, Option, Some, None, Result, Ok, Err, refl, sym, ap, subst, arith, append_assoc, append-nil, length-append}
+use Rattle.std.specs.Prelude.{◌&&◌, not, if◌then◌else◌, nat_lt}
 use Rattle.std.specs.List.{list_all}
-use Rattle.std.specs.Option.{option_map, option_and_then}
+use Rattle.std.specs.Option.{option_map}
 use Rattle.std.proofs.lemmas.Option.{same_Some}
 use Rattle.std.proofs.lemmas.List.{length_push}
-use Rattle.fleet_map.specs.Text.{is_empty, number_of}
 use Rattle.fleet_plans.specs.declared.limit.TheConstants.{MOST_PLAN_BYTES}
-use Rattle.fleet_plans.specs.Cells.{coordinate, cell_at}
-use Rattle.fleet_plans.specs.Places.{is_number}
-use Rattle.fleet_plans.specs.Scenario.{cell_of, word_at}
-use Rattle.fleet_plans.specs.Schedule.{Group, Draft, no_group, drafted, robot_in, with_cell_of, with_scheduled, cells_of, schedule_of}
-use Rattle.fleet_plans.specs.Table.{Trails, no_trails, with_cell, with_robot, with_numbers, with_fields, paths_of}
-use Rattle.fleet_plans.specs.Grammar.{is_schedule, names_robot, is_column, is_row, is_time, is_of_cell, is_silent, IsNamed, PutsAfter, ArePut, nothing, silent, puts, all_stays, IsSchedule}
+use Rattle.fleet_plans.specs.declared.schedule.Part.{Part}
+use Rattle.fleet_plans.specs.declared.schedule.Part.TheVariants.{Begin, Name, Column, Row, Cell}
+use Rattle.fleet_plans.specs.Cells.{cell_at}
+use Rattle.fleet_plans.specs.Schedule.{names, column_of, row_of, is_at, Draft, drafted, with_next, with_scheduled, is_whole, robots_of, schedule_of}
+use Rattle.fleet_plans.specs.Table.{Trails, no_trails, with_cell, paths_of}
+use Rattle.fleet_plans.specs.Grammar.{is_schedule, IsCell, AreCells, AreRobots, IsSchedule}
 use Rattle.fleet_plans.proofs.Grammar.{went_on}
-use Rattle.fleet_plans.proofs.Stays.{both, each_of, all_more, all_but, stay, cell_stays, robot_stays}
 
-some_if : (b : Bool) (x y : Trails) → (if b then Some x else None) ≡ Some y → (b ≡ true) × (x ≡ y)
+-- ---- truth values and results
+
+pub both : (a b : Bool) → a ≡ true → b ≡ true → (a && b) ≡ true
+both true true pa pb = refl
+both true false pa pb = absurd cc
+both false b pa pb = absurd cc
+
+pub each_of : (a b : Bool) → (a && b) ≡ true → (a ≡ true) × (b ≡ true)
+each_of true true are = (refl, refl)
+each_of true false are = absurd cc
+each_of false b are = absurd cc
+
+some_if : {X : Type 0} (b : Bool) (x y : X) → (if b then Some x else None) ≡ Some y → (b ≡ true) × (x ≡ y)
 some_if true x y is = (refl, same_Some x y is)
 some_if false x y is = absurd cc
+
+pub if_true : {X : Type 0} (b : Bool) (x y : X) → b ≡ true → (if b then x else y) ≡ x
+if_true true x y is = refl
+if_true false x y is = absurd cc
+
+pub if_not : {X : Type 0} (b : Bool) (x y : X) → not b ≡ true → (if b then x else y) ≡ y
+if_not true x y is = absurd cc
+if_not false x y is = refl
+
+mapped : {X Y : Type 0} (f : X → Y) (o : Option X) (y : Y) → option_map f o ≡ Some y → (x : X) × (o ≡ Some x) × (f x ≡ y)
+mapped f None y is = absurd cc
+mapped f (Some x) y is = (x, refl, same_Some (f x) y is)
 
 abbrev read : Trails → Result Trails ℕ
 read t = Ok t
 
-read_if : (b : Bool) (n : ℕ) (x y : Trails) → (if b then read x else Err n) ≡ Ok y → (b ≡ true) × (x ≡ y)
-read_if true n x y is = (refl, cc)
-read_if false n x y is = absurd cc
+same_ok : (t u : Trails) → read t ≡ Ok u → t ≡ u
+same_ok t u is = cc
 
-has_cells : (path : List ℕ) → nat_lt 0 (length path) ≡ true → not (is_empty path) ≡ true
-has_cells [] is = absurd cc
-has_cells (c ∷ cs) is = refl
+-- the paths with one more cell of the last robot, and with one more robot
+abbrev pub celled : Trails → ℕ → Trails
+celled t c = record { whole = t.whole; path = t.path ++ c ∷ [] }
 
--- ---- what is known of the lines so far
-
-abbrev Known : List (List ℕ) → List ℕ → Type 0
-Known lines name = (name ≡ []) ⊎ IsNamed lines name
-
-abbrev Last : List (List ℕ) → List ℕ → Type 0
-Last rows y = (y ≡ []) ⊎ ((before : List (List ℕ)) × (row : List ℕ) × (rows ≡ before ++ row ∷ []) × (y ≡ word_at row 1))
-
--- the last lines are a column and rows
-record IsBegun (lines : List (List ℕ)) (g : Group) : Type 0 where
-  pub before : List (List ℕ)
-  pub column : List ℕ
-  pub rows : List (List ℕ)
-  pub parts : lines ≡ before ++ column ∷ rows
-  pub named : Known before g.agent
-  pub column_is : is_column column ≡ true
-  pub rows_are : list_all is_row rows ≡ true
-  pub x_is : g.x ≡ word_at column 2
-  pub y_is : Last rows g.y
-
-known_more : (lines : List (List ℕ)) (name line : List ℕ) → Known lines name → is_of_cell line ≡ true → Known (lines ++ line ∷ []) name
-known_more lines name line (inl blank) is = inl blank
-known_more lines name line (inr k) is = inr (record {
-  before = k.before;
-  line = k.line;
-  cells = k.cells ++ line ∷ [];
-  parts = ap (λ (ls : List (List ℕ)). ls ++ line ∷ []) k.parts ∙ append_assoc k.before (k.line ∷ k.cells) (line ∷ []);
-  is = k.is;
-  only = all_more is_of_cell k.cells line k.only is;
-  word = k.word;
-})
-
-by_column : (a b c : Bool) → a ≡ true → (a || b || c) ≡ true
-by_column true b c is = refl
-by_column false b c is = absurd cc
-
-by_row : (a b c : Bool) → b ≡ true → (a || b || c) ≡ true
-by_row true b c is = refl
-by_row false true c is = refl
-by_row false false c is = absurd cc
-
-by_last : (a b c : Bool) → c ≡ true → (a || b || c) ≡ true
-by_last true b c is = refl
-by_last false true c is = refl
-by_last false false c is = is
+abbrev pub named : Trails → Trails
+named t = record { whole = t.whole ++ t.path ∷ []; path = [] }
 
 module _ (w h : ℕ) where
-  record IsSaid (lines : List (List ℕ)) (t : Trails) (g : Group) : Type 0 where
-    pub are_put : ArePut w h lines (all_stays 0 (paths_of t))
-    pub none_empty : list_all (λ path. not (is_empty path)) t.whole ≡ true
-    pub named : Known lines g.agent
-    pub begun : (g.x ≡ []) ⊎ IsBegun lines g
+  -- ---- what is read is what the lines say
 
-  -- ---- one more line that puts no robot anywhere
+  -- the lines go on as these paths do
+  record GoesOn (t : Trails) (lines : List (List ℕ)) (u : Trails) : Type 0 where
+    pub path : List ℕ
+    pub paths : List (List ℕ)
+    pub rest : List (List ℕ)
+    pub some : 1 ≤ length (t.path ++ path)
+    pub cells : AreCells w h (length t.path) path lines rest
+    pub robots : AreRobots w h (length t.whole + 1) paths rest
+    pub are : paths_of u ≡ t.whole ++ (t.path ++ path) ∷ paths
 
-  module _ (lines : List (List ℕ)) (t : Trails) (g : Group) (line : List ℕ) (said : IsSaid lines t g) where
-    is_still : is_silent line ≡ true → ArePut w h (lines ++ line ∷ []) (all_stays 0 (paths_of t))
-    is_still is = silent line said.are_put is refl
+  abbrev IsTimed : Trails → ℕ → List (List ℕ) → Trails → Type 0
+  IsTimed t cell lines u = (last : List ℕ) × (rest : List (List ℕ)) × (lines ≡ last ∷ rest) × (is_at (length t.path) last ≡ true) × GoesOn (celled t cell) rest u
 
-    column_more : is_column line ≡ true → IsSaid (lines ++ line ∷ []) t (record { agent = g.agent; x = word_at line 2; y = [] })
-    column_more is = record {
-      are_put = is_still (by_column (is_column line) (is_row line) (names_robot line) is);
-      none_empty = said.none_empty;
-      named = known_more lines g.agent line said.named (by_column (is_column line) (is_row line) (is_time line) is);
-      begun = inr (record { before = lines; column = line; rows = []; parts = refl; named = said.named; column_is = is; rows_are = refl; x_is = refl; y_is = inl refl });
-    }
+  -- what the lines after such a line are
+  abbrev Goes : Part → Trails → List (List ℕ) → Trails → Type 0
+  Goes Begin t lines u = t ≡ no_trails → AreRobots w h 0 (paths_of u) lines
+  Goes Name t lines u = GoesOn t lines u
+  Goes (Column x) t lines u = (row : List ℕ) × (y : ℕ) × (rest : List (List ℕ)) × (lines ≡ row ∷ rest) × (row_of row ≡ Some y) × IsTimed t (cell_at w h x y) rest u
+  Goes (Row cell) t lines u = IsTimed t cell lines u
+  Goes Cell t lines u = 1 ≤ length t.path → GoesOn t lines u
 
-    row_more : is_row line ≡ true → IsSaid (lines ++ line ∷ []) t (record { agent = g.agent; x = g.x; y = word_at line 1 })
-    row_more is = record {
-      are_put = is_still (by_row (is_column line) (is_row line) (names_robot line) is);
-      none_empty = said.none_empty;
-      named = known_more lines g.agent line said.named (by_row (is_column line) (is_row line) (is_time line) is);
-      begun = begun said.begun;
-    }
-      where
-        begun : (g.x ≡ []) ⊎ IsBegun lines g → (g.x ≡ []) ⊎ IsBegun (lines ++ line ∷ []) (record { agent = g.agent; x = g.x; y = word_at line 1 })
-        begun (inl blank) = inl blank
-        begun (inr b) = inr (record {
-          before = b.before;
-          column = b.column;
-          rows = b.rows ++ line ∷ [];
-          parts = ap (λ (ls : List (List ℕ)). ls ++ line ∷ []) b.parts ∙ append_assoc b.before (b.column ∷ b.rows) (line ∷ []);
-          named = b.named;
-          column_is = b.column_is;
-          rows_are = all_more is_row b.rows line b.rows_are is;
-          x_is = b.x_is;
-          y_is = inr (b.rows, line, refl, refl);
-        })
-
-    robot_more : names_robot line ≡ true → IsSaid (lines ++ line ∷ []) t (no_group (robot_in (word_at line 0)))
-    robot_more is = record {
-      are_put = is_still (by_last (is_column line) (is_row line) (names_robot line) is);
-      none_empty = said.none_empty;
-      named = inr (record { before = lines; line = line; cells = []; parts = refl; is = is; only = refl; word = refl });
-      begun = inl refl;
-    }
-
-    -- ---- one more line that puts a robot on a cell
-
-    no_column : (x : List ℕ) (c : ℕ) → x ≡ [] → cell_of w h x g.y ≡ Some c → ⊥
-    no_column x c blank is = let so : cell_of w h [] g.y ≡ Some c = subst (λ (z : List ℕ). cell_of w h z g.y ≡ Some c) blank is in cc
-
-    no_row : (y : List ℕ) (c : ℕ) → y ≡ [] → cell_of w h g.x y ≡ Some c → ⊥
-    no_row y c blank is = by (coordinate g.x) (subst (λ (z : List ℕ). cell_of w h g.x z ≡ Some c) blank is)
-      where
-        by : (o : Option ℕ) → option_and_then (λ column. option_map (λ row. cell_at w h column row) (coordinate [])) o ≡ Some c → ⊥
-        by None it = cc
-        by (Some column) it = cc
-
-    no_name : (name : List ℕ) (r : ℕ) → name ≡ [] → is_number r (number_of name) ≡ true → ⊥
-    no_name name r blank is = let so : is_number r (number_of []) ≡ true = subst (λ (z : List ℕ). is_number r (number_of z) ≡ true) blank is in cc
-
-    module _ (timely : is_time line ≡ true) (r s c : ℕ) (numbered : is_number r (number_of g.agent) ≡ true) (timed : is_number s (number_of (word_at line 1)) ≡ true) (there : cell_of w h g.x g.y ≡ Some c) where
-      puts_by : (b : IsBegun lines g) → Known b.before g.agent → Last b.rows g.y → PutsAfter w h lines line (stay r s c)
-      puts_by b (inl blank) last = absurd (no_name g.agent r blank numbered)
-      puts_by b (inr named) (inl blank) = absurd (no_row g.y c blank there)
-      puts_by b (inr named) (inr (rows, row, are, y_is)) =
-          let (all, last) = all_but is_row rows row (subst (λ (ls : List (List ℕ)). list_all is_row ls ≡ true) are b.rows_are) in
-          record {
-            before = b.before;
-            column = b.column;
-            rows = rows;
-            row = row;
-            name = g.agent;
-            parts = b.parts ∙ (ap (λ (ls : List (List ℕ)). b.before ++ b.column ∷ ls) are ∙ sym (append_assoc b.before (b.column ∷ rows) (row ∷ [])));
-            named = named;
-            column_is = b.column_is;
-            rows_are = all;
-            row_is = last;
-            time_is = timely;
-            numbered = numbered;
-            timed = timed;
-            there = subst (λ (y : List ℕ). cell_of w h (word_at b.column 2) y ≡ Some c) y_is (subst (λ (x : List ℕ). cell_of w h x g.y ≡ Some c) b.x_is there);
-          }
-
-      puts_line : (g.x ≡ []) ⊎ IsBegun lines g → PutsAfter w h lines line (stay r s c)
-      puts_line (inl blank) = absurd (no_column g.x c blank there)
-      puts_line (inr b) = puts_by b b.named b.y_is
-
-      -- and this is the next cell of the paths
-      time_more : (u : Trails) → all_stays 0 (paths_of u) ≡ all_stays 0 (paths_of t) ++ stay r s c ∷ [] → list_all (λ path. not (is_empty path)) u.whole ≡ true → IsSaid (lines ++ line ∷ []) u (no_group g.agent)
-      time_more u are none_empty = record {
-        are_put = puts line (stay r s c) said.are_put (puts_line said.begun) refl are;
-        none_empty = none_empty;
-        named = known_more lines g.agent line said.named (by_last (is_column line) (is_row line) (is_time line) timely);
-        begun = inl refl;
+  -- a cell stands before what goes on
+  cell_first : (t : Trails) (column : List ℕ) (x : ℕ) (lines : List (List ℕ)) (u : Trails) → column_of column ≡ Some x → Goes (Column x) t lines u → GoesOn t (column ∷ lines) u
+  cell_first t column x lines u column_is (row, y, rest, row_first, row_is, (last, after, last_first, time_is, on)) =
+      let cell = cell_at w h x y in
+      let joined : (t.path ++ cell ∷ []) ++ on.path ≡ t.path ++ cell ∷ on.path = append_assoc t.path (cell ∷ []) on.path in
+      let is : IsCell w h (length t.path) cell (column ∷ lines) after = record {
+        x = x;
+        y = y;
+        column = column;
+        row = row;
+        last = last;
+        parts = ap (λ (ls : List (List ℕ)). column ∷ ls) (row_first ∙ ap (λ (ls : List (List ℕ)). row ∷ ls) last_first);
+        column_is = column_is;
+        row_is = row_is;
+        time_is = time_is;
+        there = refl;
+      } in
+      record {
+        path = cell ∷ on.path;
+        paths = on.paths;
+        rest = on.rest;
+        some = omega (arith, length-append t.path (cell ∷ on.path));
+        cells = (after, is, subst (λ (n : ℕ). AreCells w h n on.path after on.rest) (length_push t.path cell) on.cells);
+        robots = on.robots;
+        are = on.are ∙ ap (λ (p : List ℕ). t.whole ++ p ∷ on.paths) joined;
       }
 
-    module _ (u : Trails) (timely : is_time line ≡ true) (c : ℕ) (there : cell_of w h g.x g.y ≡ Some c) where
-      abbrev Next : Type 0
-      Next = IsSaid (lines ++ line ∷ []) u (no_group g.agent)
+  -- a robot begins
+  robot_first : (robot : ℕ) (t : Trails) (line : List ℕ) (lines : List (List ℕ)) (u : Trails) → names robot line ≡ true → t.path ≡ [] → robot ≡ length t.whole → (on : GoesOn t lines u) → AreRobots w h robot (on.path ∷ on.paths) (line ∷ lines)
+  robot_first robot t line lines u named_is none same on =
+      let some : 1 ≤ length on.path = subst (λ (p : List ℕ). 1 ≤ length (p ++ on.path)) none on.some in
+      let cells : AreCells w h 0 on.path lines on.rest = subst (λ (p : List ℕ). AreCells w h (length p) on.path lines on.rest) none on.cells in
+      let robots : AreRobots w h (robot + 1) on.paths on.rest = subst (λ (n : ℕ). AreRobots w h (n + 1) on.paths on.rest) (sym same) on.robots in
+      (on.rest, record { name = line; cells = lines; parts = refl; named = named_is; some = some; are = cells }, robots)
 
-      a_cell : is_number (length t.whole) (number_of g.agent) ≡ true → is_number (length t.path) (number_of (word_at line 1)) ≡ true → with_cell t c ≡ Some u → Next
-      a_cell numbered timed is =
-          let new : Trails = record { whole = t.whole; path = t.path ++ c ∷ [] } in
-          let same = (some_if (nat_lt (length t.path) MOST_PLAN_BYTES) new u is).1 in
-          let now : 0 + length t.whole ≡ length t.whole = omega arith in
-          let are = cell_stays 0 t.whole t.path c ∙ ap (λ (q : ℕ). all_stays 0 (paths_of t) ++ stay q (length t.path) c ∷ []) now in
-          subst (λ (x : Trails). IsSaid (lines ++ line ∷ []) x (no_group g.agent)) same (time_more timely (length t.whole) (length t.path) c numbered timed there new are said.none_empty)
+  -- the next robot stands before what goes on
+  next_first : (t : Trails) (line : List ℕ) (lines : List (List ℕ)) (u : Trails) → names (length t.whole + 1) line ≡ true → 1 ≤ length t.path → GoesOn (named t) lines u → GoesOn t (line ∷ lines) u
+  next_first t line lines u named_is some on =
+      let whole : t.path ≡ t.path ++ [] = sym (append-nil t.path) in
+      record {
+        path = [];
+        paths = on.path ∷ on.paths;
+        rest = line ∷ lines;
+        some = subst (λ (p : List ℕ). 1 ≤ length p) whole some;
+        cells = refl;
+        robots = robot_first (length t.whole + 1) (named t) line lines u named_is refl (sym (length_push t.whole t.path)) on;
+        are = on.are ∙ (append_assoc t.whole (t.path ∷ []) (on.path ∷ on.paths) ∙ ap (λ (p : List ℕ). t.whole ++ p ∷ on.path ∷ on.paths) whole);
+      }
 
-      a_robot : is_number (length t.whole + 1) (number_of g.agent) ≡ true → is_number 0 (number_of (word_at line 1)) ≡ true → with_robot t c ≡ Some u → Next
-      a_robot numbered timed is =
-          let new : Trails = record { whole = t.whole ++ t.path ∷ []; path = c ∷ [] } in
-          let (room, same) = some_if (nat_lt 0 (length t.path) && nat_lt (length t.whole) (MOST_PLAN_BYTES - 1)) new u is in
-          let (some, few) = each_of (nat_lt 0 (length t.path)) (nat_lt (length t.whole) (MOST_PLAN_BYTES - 1)) room in
-          let now : 0 + length (t.whole ++ t.path ∷ []) ≡ length t.whole + 1 = omega (arith, length_push t.whole t.path) in
-          let are = robot_stays 0 (paths_of t) c ∙ ap (λ (q : ℕ). all_stays 0 (paths_of t) ++ stay q 0 c ∷ []) now in
-          let all = all_more (λ path. not (is_empty path)) t.whole t.path said.none_empty (has_cells t.path some) in
-          subst (λ (x : Trails). IsSaid (lines ++ line ∷ []) x (no_group g.agent)) same (time_more timely (length t.whole + 1) 0 c numbered timed there new are all)
+  abbrev Continues : Draft → List (List ℕ) → Trails → Type 0
+  Continues d lines u = Goes d.part d.trails lines u
 
-      by_numbers : (a b i j : Bool) → is_number (length t.whole) (number_of g.agent) ≡ a → is_number (length t.path) (number_of (word_at line 1)) ≡ b → is_number (length t.whole + 1) (number_of g.agent) ≡ i → is_number 0 (number_of (word_at line 1)) ≡ j
-          → (if a && b then with_cell t c else if i && j then with_robot t c else None) ≡ Some u → Next
-      by_numbers true true i j pa pb pi pj is = a_cell pa pb is
-      by_numbers true false true true pa pb pi pj is = a_robot pi pj is
-      by_numbers true false true false pa pb pi pj is = absurd cc
-      by_numbers true false false j pa pb pi pj is = absurd cc
-      by_numbers false b true true pa pb pi pj is = a_robot pi pj is
-      by_numbers false b true false pa pb pi pj is = absurd cc
-      by_numbers false b false j pa pb pi pj is = absurd cc
+  -- one line
+  began : (t : Trails) (line : List ℕ) (d : Draft) (lines : List (List ℕ)) (u : Trails) → with_scheduled w h t Begin line ≡ Some d → Continues d lines u → Goes Begin t (line ∷ lines) u
+  began t line d lines u is on none =
+      let (named_is, same) = some_if (names 0 line) (drafted t Name) d is in
+      let more : GoesOn t lines u = subst (λ (e : Draft). Continues e lines u) (sym same) on in
+      let all : GoesOn no_trails lines u = subst (λ (s : Trails). GoesOn s lines u) none more in
+      subst (λ (ps : List (List ℕ)). AreRobots w h 0 ps (line ∷ lines)) (sym all.are) (robot_first 0 no_trails line lines u named_is refl refl all)
 
-    by_cell : (u : Trails) → is_time line ≡ true → (o : Option ℕ) → cell_of w h g.x g.y ≡ o → option_and_then (with_numbers t (number_of g.agent) (number_of (word_at line 1))) o ≡ Some u → IsSaid (lines ++ line ∷ []) u (no_group g.agent)
-    by_cell u timely None there it = absurd cc
-    by_cell u timely (Some c) there it =
-        by_numbers u timely c there (is_number (length t.whole) (number_of g.agent)) (is_number (length t.path) (number_of (word_at line 1))) (is_number (length t.whole + 1) (number_of g.agent)) (is_number 0 (number_of (word_at line 1))) refl refl refl refl it
+  columned : (t : Trails) (line : List ℕ) (d : Draft) (lines : List (List ℕ)) (u : Trails) → with_scheduled w h t Name line ≡ Some d → Continues d lines u → GoesOn t (line ∷ lines) u
+  columned t line d lines u is on =
+      let (x, column_is, same) = mapped (λ column. drafted t (Column column)) (column_of line) d is in
+      cell_first t line x lines u column_is (subst (λ (e : Draft). Continues e lines u) (sym same) on)
 
-    by_fields : (d : Draft) → is_time line ≡ true → (o : Option Trails) → with_fields w h t (record { agent = g.agent; time = word_at line 1; row = g.y; column = g.x }) ≡ o → option_map (λ more. drafted more (no_group g.agent)) o ≡ Some d
-        → IsSaid (lines ++ line ∷ []) d.trails d.group
-    by_fields d timely None are it = absurd cc
-    by_fields d timely (Some u) are it =
-        subst (λ (x : Draft). IsSaid (lines ++ line ∷ []) x.trails x.group) (same_Some (drafted u (no_group g.agent)) d it) (by_cell u timely (cell_of w h g.x g.y) refl are)
+  rowed : (t : Trails) (x : ℕ) (line : List ℕ) (d : Draft) (lines : List (List ℕ)) (u : Trails) → with_scheduled w h t (Column x) line ≡ Some d → Continues d lines u → Goes (Column x) t (line ∷ lines) u
+  rowed t x line d lines u is on =
+      let (y, row_is, same) = mapped (λ row. drafted t (Row (cell_at w h x row))) (row_of line) d is in
+      (line, y, lines, refl, row_is, subst (λ (e : Draft). Continues e lines u) (sym same) on)
 
-    by_kind : (d : Draft) (a b c e : Bool) → is_column line ≡ a → is_row line ≡ b → is_time line ≡ c → names_robot line ≡ e
-        → (if a then Some (drafted t (record { agent = g.agent; x = word_at line 2; y = [] })) else if b then Some (drafted t (record { agent = g.agent; x = g.x; y = word_at line 1 })) else if c then with_cell_of w h t g (word_at line 1) else if e then Some (drafted t (no_group (robot_in (word_at line 0)))) else None) ≡ Some d
-        → IsSaid (lines ++ line ∷ []) d.trails d.group
-    by_kind d true b c e pa pb pc pe is = subst (λ (x : Draft). IsSaid (lines ++ line ∷ []) x.trails x.group) (same_Some (drafted t (record { agent = g.agent; x = word_at line 2; y = [] })) d is) (column_more pa)
-    by_kind d false true c e pa pb pc pe is = subst (λ (x : Draft). IsSaid (lines ++ line ∷ []) x.trails x.group) (same_Some (drafted t (record { agent = g.agent; x = g.x; y = word_at line 1 })) d is) (row_more pb)
-    by_kind d false false true e pa pb pc pe is = by_fields d pc (with_fields w h t (record { agent = g.agent; time = word_at line 1; row = g.y; column = g.x })) refl is
-    by_kind d false false false true pa pb pc pe is = subst (λ (x : Draft). IsSaid (lines ++ line ∷ []) x.trails x.group) (same_Some (drafted t (no_group (robot_in (word_at line 0)))) d is) (robot_more pe)
-    by_kind d false false false false pa pb pc pe is = absurd cc
+  timed : (t : Trails) (cell : ℕ) (line : List ℕ) (d : Draft) (lines : List (List ℕ)) (u : Trails) → with_scheduled w h t (Row cell) line ≡ Some d → Continues d lines u → Goes (Row cell) t (line ∷ lines) u
+  timed t cell line d lines u is on = by (is_at (length t.path) line) refl is
+    where
+      by : (b : Bool) → is_at (length t.path) line ≡ b → (if b then option_map (λ more. drafted more Cell) (with_cell t cell) else None) ≡ Some d → Goes (Row cell) t (line ∷ lines) u
+      by false at it = absurd cc
+      by true at it =
+          let (more, taken, same) = mapped (λ more. drafted more Cell) (with_cell t cell) d it in
+          let added = (some_if (nat_lt (length t.path) MOST_PLAN_BYTES) (celled t cell) more taken).1 in
+          let after : 1 ≤ length more.path → GoesOn more lines u = subst (λ (e : Draft). Continues e lines u) (sym same) on in
+          let so : 1 ≤ length (t.path ++ cell ∷ []) → GoesOn (celled t cell) lines u = subst (λ (s : Trails). 1 ≤ length s.path → GoesOn s lines u) (sym added) after in
+          (line, lines, refl, at, so (omega (arith, length_push t.path cell)))
 
-  -- ---- all lines
+  celled_on : (t : Trails) (line : List ℕ) (d : Draft) (lines : List (List ℕ)) (u : Trails) → with_scheduled w h t Cell line ≡ Some d → Continues d lines u → 1 ≤ length t.path → GoesOn t (line ∷ lines) u
+  celled_on t line d lines u is on some = by (column_of line) refl is
+    where
+      by : (o : Option ℕ) → column_of line ≡ o → with_next t line o ≡ Some d → GoesOn t (line ∷ lines) u
+      by (Some x) column_is it = cell_first t line x lines u column_is (subst (λ (e : Draft). Continues e lines u) (sym (same_Some (drafted t (Column x)) d it)) on)
+      by None column_is it =
+          let (room, same) = some_if (names (length t.whole + 1) line && nat_lt (length t.whole) (MOST_PLAN_BYTES - 1)) (drafted (named t) Name) d it in
+          let named_is = (each_of (names (length t.whole + 1) line) (nat_lt (length t.whole) (MOST_PLAN_BYTES - 1)) room).0 in
+          next_first t line lines u named_is some (subst (λ (e : Draft). Continues e lines u) (sym same) on)
 
-  abbrev AreSaid : List (List ℕ) → Trails → Type 0
-  AreSaid lines u = ArePut w h lines (all_stays 0 (paths_of u)) × (list_all (λ path. not (is_empty path)) (paths_of u) ≡ true)
+  ended : (part : Part) (t u : Trails) (n : ℕ) → (if is_whole part then read t else Err n) ≡ Ok u → Goes part t [] u
+  ended Begin t u n is = absurd cc
+  ended Name t u n is = absurd cc
+  ended (Column x) t u n is = absurd cc
+  ended (Row cell) t u n is = absurd cc
+  ended Cell t u n is =
+      let whole : t.path ≡ t.path ++ [] = sym (append-nil t.path) in
+      λ some. record {
+        path = [];
+        paths = [];
+        rest = [];
+        some = subst (λ (p : List ℕ). 1 ≤ length p) whole some;
+        cells = refl;
+        robots = refl;
+        are = ap (λ (s : Trails). paths_of s) (sym (same_ok t u is)) ∙ ap (λ (p : List ℕ). t.whole ++ p ∷ []) whole;
+      }
 
-  cells_read : (lines rest : List (List ℕ)) (t : Trails) (g : Group) (n : ℕ) (u : Trails) → IsSaid lines t g → cells_of w h t g n rest ≡ Ok u → AreSaid (lines ++ rest) u
-  unfolding cells_of
-  cells_read lines [] t g n u said is =
-      let (some, same) = read_if (nat_lt 0 (length t.path)) n t u is in
-      let all = all_more (λ path. not (is_empty path)) t.whole t.path said.none_empty (has_cells t.path some) in
-      subst (λ (ls : List (List ℕ)). AreSaid ls u) (sym (append-nil lines)) (subst (λ (x : Trails). AreSaid lines x) same (said.are_put, all))
-  cells_read lines (line ∷ rest) t g n u said is =
-      let (d, taken, more) = went_on n (with_scheduled w h t g line) (λ d. cells_of w h d.trails d.group (n + 1) rest) u is in
-      let next = by_kind lines t g line said d (is_column line) (is_row line) (is_time line) (names_robot line) refl refl refl refl taken in
-      subst (λ (ls : List (List ℕ)). AreSaid ls u) (append_assoc lines (line ∷ []) rest) (cells_read (lines ++ line ∷ []) rest d.trails d.group (n + 1) u next more)
+  line_read : (part : Part) (t : Trails) (line : List ℕ) (d : Draft) (lines : List (List ℕ)) (u : Trails) → with_scheduled w h t part line ≡ Some d → Continues d lines u → Goes part t (line ∷ lines) u
+  line_read Begin t line d lines u is on = began t line d lines u is on
+  line_read Name t line d lines u is on = columned t line d lines u is on
+  line_read (Column x) t line d lines u is on = rowed t x line d lines u is on
+  line_read (Row cell) t line d lines u is on = timed t cell line d lines u is on
+  line_read Cell t line d lines u is on = celled_on t line d lines u is on
 
-  nothing_said : IsSaid [] no_trails (no_group [])
-  nothing_said = record { are_put = nothing; none_empty = refl; named = inl refl; begun = inl refl }
+  lines_read : (part : Part) (t : Trails) (n : ℕ) (lines : List (List ℕ)) (u : Trails) → robots_of w h t part n lines ≡ Ok u → Goes part t lines u
+  unfolding robots_of
+  lines_read part t n [] u is = ended part t u n is
+  lines_read part t n (line ∷ lines) u is =
+      let (d, taken, more) = went_on n (with_scheduled w h t part line) (λ d. robots_of w h d.trails d.part (n + 1) lines) u is in
+      line_read part t line d lines u taken (lines_read d.part d.trails (n + 1) lines u more)
 
-  begins_here : (line : List ℕ) (lines : List (List ℕ)) (u : Trails) → is_schedule line ≡ true → AreSaid lines u → IsSchedule w h (line ∷ lines) (paths_of u)
-  begins_here line lines u begun (put, all) = record {
+  -- ---- the line `schedule:`
+
+  begins_here : (line : List ℕ) (lines : List (List ℕ)) (u : Trails) → is_schedule line ≡ true → AreRobots w h 0 (paths_of u) lines → IsSchedule w h (line ∷ lines) (paths_of u)
+  begins_here line lines u begun are = record {
     before = [];
     line = line;
-    cells = lines;
+    robots = lines;
     parts = refl;
     not_yet = refl;
     begun = begun;
-    are_put = put;
     some = omega (arith, length_push u.whole u.path);
-    none_empty = all;
+    are = are;
   }
 
   begins_later : (line : List ℕ) (lines paths : List (List ℕ)) → is_schedule line ≡ false → IsSchedule w h lines paths → IsSchedule w h (line ∷ lines) paths
   begins_later line lines paths not_begun s = record {
     before = line ∷ s.before;
     line = s.line;
-    cells = s.cells;
+    robots = s.robots;
     parts = ap (λ (ls : List (List ℕ)). line ∷ ls) s.parts;
     not_yet = both (not (is_schedule line)) (list_all (λ l. not (is_schedule l)) s.before) (ap not not_begun) s.not_yet;
     begun = s.begun;
-    are_put = s.are_put;
     some = s.some;
-    none_empty = s.none_empty;
+    are = s.are;
   }
 
   pub is-schedule : (n : ℕ) (lines : List (List ℕ)) (t : Trails) → schedule_of w h n lines ≡ Ok t → IsSchedule w h lines (paths_of t)
@@ -282,6 +234,6 @@ module _ (w h : ℕ) where
   is-schedule n (line ∷ lines) t is = by (λ it. is-schedule (n + 1) lines t it) (is_schedule line) refl is
     where
       by : (schedule_of w h (n + 1) lines ≡ Ok t → IsSchedule w h lines (paths_of t)) → (b : Bool) → is_schedule line ≡ b
-          → (if b then cells_of w h no_trails (no_group []) (n + 1) lines else schedule_of w h (n + 1) lines) ≡ Ok t → IsSchedule w h (line ∷ lines) (paths_of t)
-      by again true here it = begins_here line lines t here (cells_read [] lines no_trails (no_group []) (n + 1) t nothing_said it)
+          → (if b then robots_of w h no_trails Begin (n + 1) lines else schedule_of w h (n + 1) lines) ≡ Ok t → IsSchedule w h (line ∷ lines) (paths_of t)
+      by again true here it = begins_here line lines t here (lines_read Begin no_trails (n + 1) lines t it refl)
       by again false here it = begins_later line lines (paths_of t) here (again it)

@@ -1,6 +1,6 @@
 -- A plan as a line `Agent K: (R,C)->(R,C)->..` for each robot, with R the row and C the column, as planners of the CBS family
 -- write paths. Line k is that of robot k; after the last cell an arrow may stand.
-use Rattle.std.specs.Prelude.{◌≡◌, ℕ, ◌+◌, ◌-◌, ◌<◌, Bool, List, [], ◌∷◌, length, take, drop, slice_index, slice_index_or, Option, Some, None, ◌==◌, if◌then◌else◌, codes}
+use Rattle.std.specs.Prelude.{◌≡◌, ℕ, ◌+◌, ◌-◌, ◌<◌, ◌≤◌, ◌⊎◌, Bool, List, [], ◌∷◌, length, take, drop, slice_index, slice_index_or, Option, Some, None, ◌==◌, if◌then◌else◌, codes}
 use Rattle.std.specs.List.{slice_split}
 use Rattle.std.specs.Option.{option_map, option_and_then}
 use Rattle.std.specs.Str.{bytes_eq}
@@ -60,11 +60,11 @@ pub record AreAgents (w h : ℕ) (lines : List (List ℕ)) (n : ℕ) (paths : Li
   pub each_one : length paths ≡ n
   pub path : (k : ℕ) → k < n → agent_in w h k (slice_index_or lines k []) ≡ Some (slice_index_or paths k [])
 
--- this line is the first that is not its robot's
+-- this line is the first that is not its robot's; in a text without lines that of robot 0 is missing
 pub record IsAgentsFault (w h : ℕ) (lines : List (List ℕ)) (line : ℕ) : Type 0 where
   pub robot : ℕ
   pub line_is : line ≡ robot + 1
-  pub inside : robot < length lines
+  pub inside : (robot ≡ 0) ⊎ (robot < length lines)
   pub paths : List (List ℕ)
   pub before : AreAgents w h lines robot paths
   pub none : agent_in w h robot (slice_index_or lines robot []) ≡ None
@@ -74,6 +74,6 @@ abbrev pub IsNoAgents : ℕ → ℕ → List ℕ → PlanTextFault → Type 0
 IsNoAgents w h text (Line line) = IsAgentsFault w h (lines_of text) line
 IsNoAgents w h text NoMemory = Unit {0}
 
--- the text is that of such a plan: all lines have paths, which the robots follow
+-- the text is that of such a plan: it has a line, and all lines have paths, which the robots follow
 abbrev pub IsAgentsPlan : ℕ → ℕ → List ℕ → List (List ℕ) → Type 0
-IsAgentsPlan w h text places = (paths : List (List ℕ)) × AreAgents w h (lines_of text) (length (lines_of text)) paths × AreFollowed paths places
+IsAgentsPlan w h text places = (paths : List (List ℕ)) × (1 ≤ length paths) × AreAgents w h (lines_of text) (length (lines_of text)) paths × AreFollowed paths places

@@ -1,5 +1,5 @@
 -- What the lines of a plan's text say, as relations: with a head, of a table, and as YAML.
-use Rattle.std.specs.Prelude.{◌≡◌, ℕ, ◌+◌, ◌≤◌, Bool, true, not, ◌&&◌, ◌||◌, List, [], ◌∷◌, ◌++◌, filter, length, Some, Ok, slice_get, slice_index_or, codes}
+use Rattle.std.specs.Prelude.{◌≡◌, ℕ, ◌+◌, ◌≤◌, Bool, true, not, List, [], ◌∷◌, ◌++◌, filter, length, Some, Ok, slice_get, slice_index_or, codes}
 use Rattle.std.specs.List.{list_all}
 use Rattle.std.specs.Str.{bytes_eq}
 use Rattle.fleet_map.specs.Text.{is_empty, number_of}
@@ -8,7 +8,8 @@ use Rattle.fleet_plans.specs.Form.{is_header}
 use Rattle.fleet_plans.specs.Head.{Head, Opened, blank_head, split_once, with_line}
 use Rattle.fleet_plans.specs.Places.{begins, is_number, place_in}
 use Rattle.fleet_plans.specs.Scenario.{cell_of, word_at}
-use Rattle.fleet_plans.specs.Schedule.{is_robot, robot_in, schedule_of}
+use Rattle.fleet_plans.specs.Cells.{cell_at}
+use Rattle.fleet_plans.specs.Schedule.{names, column_of, row_of, is_at, schedule_of}
 use Rattle.fleet_plans.specs.Table.{Fields, Trails, fields_of, paths_of}
 use Rattle.fleet_plans.specs.Tracks.{is_move}
 use Rattle.fleet_plans.specs.Valid.{place_at}
@@ -78,98 +79,54 @@ pub record IsTable (w h : ℕ) (lines paths : List (List ℕ)) : Type 0 where
   pub each : (k : ℕ) (line : List ℕ) → slice_get cells k ≡ Some line → AgreesWith w h paths line
   pub all : (robot time cell : ℕ) → HasAt paths robot time cell → IsPut w h cells robot time cell
 
--- ---- YAML: after the line `schedule:` each line is `agentK:`, `- x: COLUMN`, `y: ROW` or `t: TIME`, and only the last puts a robot on a cell
+-- ---- YAML: after the line `schedule:` come the robots by number, each with its line `agentK:` and the three lines of each of its cells
 
 -- a line `schedule:`
 abbrev pub is_schedule : List ℕ → Bool
 is_schedule line = bytes_eq (word_at line 0) (codes "schedule:")
 
--- a line `agentK:`
-abbrev pub names_robot : List ℕ → Bool
-names_robot line = is_robot (word_at line 0)
-
--- a line `- x: COLUMN`
-abbrev pub is_column : List ℕ → Bool
-is_column line = bytes_eq (word_at line 0) (codes "-") && bytes_eq (word_at line 1) (codes "x:")
-
--- a line `y: ROW`
-abbrev pub is_row : List ℕ → Bool
-is_row line = bytes_eq (word_at line 0) (codes "y:")
-
--- a line `t: TIME`
-abbrev pub is_time : List ℕ → Bool
-is_time line = bytes_eq (word_at line 0) (codes "t:")
-
--- a line of a cell
-abbrev pub is_of_cell : List ℕ → Bool
-is_of_cell line = is_column line || is_row line || is_time line
-
--- a line that by itself puts no robot anywhere
-abbrev pub is_silent : List ℕ → Bool
-is_silent line = is_column line || is_row line || names_robot line
-
--- where a robot is at a time
-pub record Stay : Type 0 where
-  pub robot : ℕ
-  pub time : ℕ
-  pub cell : ℕ
-
--- the last line `agentK:` of these has this K; only lines of cells follow it
-pub record IsNamed (lines : List (List ℕ)) (name : List ℕ) : Type 0 where
-  pub before : List (List ℕ)
-  pub line : List ℕ
-  pub cells : List (List ℕ)
-  pub parts : lines ≡ before ++ line ∷ cells
-  pub is : names_robot line ≡ true
-  pub only : list_all is_of_cell cells ≡ true
-  pub word : name ≡ robot_in (word_at line 0)
-
--- after these lines, a line `t: TIME` puts a robot on a cell: the last of them are a line `- x: COLUMN` and then lines `y: ROW`, of which the
--- last counts; before them the robot is named
-pub record PutsAfter (w h : ℕ) (lines : List (List ℕ)) (line : List ℕ) (stay : Stay) : Type 0 where
-  pub before : List (List ℕ)
+-- the first three of these lines are those of this cell at a time: `- x: COLUMN`, `y: ROW` and `t: TIME`
+pub record IsCell (w h time cell : ℕ) (lines rest : List (List ℕ)) : Type 0 where
+  pub x : ℕ
+  pub y : ℕ
   pub column : List ℕ
-  pub rows : List (List ℕ)
   pub row : List ℕ
+  pub last : List ℕ
+  pub parts : lines ≡ column ∷ row ∷ last ∷ rest
+  pub column_is : column_of column ≡ Some x
+  pub row_is : row_of row ≡ Some y
+  pub time_is : is_at time last ≡ true
+  pub there : cell ≡ cell_at w h x y
+
+-- the first of these lines are those of a path's cells, from this time on
+abbrev pub AreCells : ℕ → ℕ → ℕ → List ℕ → List (List ℕ) → List (List ℕ) → Type 0
+AreCells w h time [] lines rest = lines ≡ rest
+AreCells w h time (cell ∷ path) lines rest = (after : List (List ℕ)) × IsCell w h time cell lines after × AreCells w h (time + 1) path after rest
+
+-- the first of these lines are those of a robot: its name, and all of its path, which has a cell
+pub record IsRobot (w h robot : ℕ) (path : List ℕ) (lines rest : List (List ℕ)) : Type 0 where
   pub name : List ℕ
-  pub parts : lines ≡ before ++ column ∷ rows ++ row ∷ []
-  pub named : IsNamed before name
-  pub column_is : is_column column ≡ true
-  pub rows_are : list_all is_row rows ≡ true
-  pub row_is : is_row row ≡ true
-  pub time_is : is_time line ≡ true
-  pub numbered : is_number stay.robot (number_of name) ≡ true
-  pub timed : is_number stay.time (number_of (word_at line 1)) ≡ true
-  pub there : cell_of w h (word_at column 2) (word_at row 1) ≡ Some stay.cell
+  pub cells : List (List ℕ)
+  pub parts : lines ≡ name ∷ cells
+  pub named : names robot name ≡ true
+  pub some : 1 ≤ length path
+  pub are : AreCells w h 0 path cells rest
 
--- where lines put robots, in their order: each is silent or puts one on a cell
-pub data ArePut (w h : ℕ) : List (List ℕ) → List Stay → Type 0 where
-  nothing : ArePut w h [] []
-  silent : {lines : List (List ℕ)} {stays : List Stay} (line : List ℕ) {all : List (List ℕ)} → ArePut w h lines stays → is_silent line ≡ true → all ≡ lines ++ line ∷ [] → ArePut w h all stays
-  puts : {lines : List (List ℕ)} {stays : List Stay} (line : List ℕ) (stay : Stay) {all : List (List ℕ)} {more : List Stay} → ArePut w h lines stays → PutsAfter w h lines line stay
-      → all ≡ lines ++ line ∷ [] → more ≡ stays ++ stay ∷ [] → ArePut w h all more
+-- these lines are those of the robots from this one on
+abbrev pub AreRobots : ℕ → ℕ → ℕ → List (List ℕ) → List (List ℕ) → Type 0
+AreRobots w h robot [] lines = lines ≡ []
+AreRobots w h robot (path ∷ paths) lines = (after : List (List ℕ)) × IsRobot w h robot path lines after × AreRobots w h (robot + 1) paths after
 
--- the robot's path from this time on
-abbrev pub stays_of : ℕ → ℕ → List ℕ → List Stay
-stays_of robot time [] = []
-stays_of robot time (cell ∷ cells) = record { robot = robot; time = time; cell = cell } ∷ stays_of robot (time + 1) cells
-
--- the paths of the robots from this one on, one after another
-abbrev pub all_stays : ℕ → List (List ℕ) → List Stay
-all_stays robot [] = []
-all_stays robot (path ∷ paths) = stays_of robot 0 path ++ all_stays (robot + 1) paths
-
--- lines that say nothing, the line `schedule:`, and lines that put the robots where their paths have them, robot by robot and time by time
+-- lines that say nothing, the line `schedule:`, and the lines of the robots
 pub record IsSchedule (w h : ℕ) (lines paths : List (List ℕ)) : Type 0 where
   pub before : List (List ℕ)
   pub line : List ℕ
-  pub cells : List (List ℕ)
-  pub parts : lines ≡ before ++ line ∷ cells
+  pub robots : List (List ℕ)
+  pub parts : lines ≡ before ++ line ∷ robots
   pub not_yet : list_all (λ l. not (is_schedule l)) before ≡ true
   pub begun : is_schedule line ≡ true
-  pub are_put : ArePut w h cells (all_stays 0 paths)
   pub some : 1 ≤ length paths
-  pub none_empty : list_all (λ path. not (is_empty path)) paths ≡ true
+  pub are : AreRobots w h 0 paths robots
 
 -- there are not more paths, nor longer ones, than the longest text has bytes
 pub record AreFew (paths : List (List ℕ)) : Type 0 where

@@ -131,11 +131,12 @@ fn agent_in(
     }
 }
 
-/// The paths of all robots.
+/// The paths of all robots, of which there has to be one.
 fn all_paths(alloc: Global, sides: Sides, text: &[u8]) -> Result<Vec<Row<u32>>, PlanTextFault>
     requires { length text.now ≤ MOST_PLAN_BYTES }
     ensures read { IfOk result (λ paths. AreAgents sides.width sides.height (lines_of text.now) (length (lines_of text.now)) paths.items) }
     ensures fault { IfErr result (λ fault. IsNoAgents sides.width sides.height text.now fault) }
+    ensures some { IfOk result (λ paths. 1 ≤ length paths.items) }
     ensures few { IfOk result (λ paths. length paths.items ≤ MOST_PLAN_BYTES) }
     ensures short { IfOk result (λ paths. (r : ℕ) → length (slice_index_or paths.items r []) ≤ MOST_PLAN_BYTES) }
 {
@@ -149,13 +150,16 @@ fn all_paths(alloc: Global, sides: Sides, text: &[u8]) -> Result<Vec<Row<u32>>, 
         paths.push(path)?;
         rest = after;
     }
+    if paths.is_empty() {
+        return Err(PlanTextFault::Line(1));
+    }
     Ok(paths)
 }
 
 /// Gives the judge the placements of a plan with a line `Agent K: (R,C)->(R,C)->..` for each robot. Such a plan names
 /// no goals.
 ///
-/// The fault is the first line that is not its robot's, or `NoMemory`.
+/// The fault is the first line that is not its robot's, which is line 1 in a text without lines; or `NoMemory`.
 pub(crate) fn read_agents<B: Allocator + Copy>(
     alloc: Global,
     sides: Sides,

@@ -1,41 +1,41 @@
 //! Plans as YAML, as libMultiRobotPlanning writes them.
 
-ghost use Rattle.std.specs.Prelude.{◌≡◌, ◌≤◌, ◌+◌, [], length, IfOk, IfErr};
+ghost use Rattle.std.specs.Prelude.{◌≡◌, ◌≤◌, ◌+◌, ℕ, [], length, IfOk, IfErr, IfSome};
 ghost use Rattle.std.specs.Option.{option_map};
 ghost use Rattle.fleet_map.specs.Text.{lines_of};
 ghost use Rattle.fleet_plans.specs.Judge.{HasJudged};
-ghost use Rattle.fleet_plans.specs.Schedule.{group, is_robot, robot_in, no_group, drafted, with_cell_of, with_scheduled, cells_of, schedule_of, IsScheduled};
+ghost use Rattle.fleet_plans.specs.Schedule.{is_robot, robot_in, names, column_of, row_of, is_at, drafted, with_name, with_time, with_next, with_scheduled, is_whole, robots_of, schedule_of, IsScheduled};
 ghost use Rattle.fleet_plans.specs.Shown.{FailsAt, Gives};
 ghost use Rattle.fleet_plans.specs.Table.{trails, no_trails, AreShort};
 ghost use Rattle.fleet_plans.specs.inside.Given.{IsGiven};
 
+use crate::cells::coordinate_of;
 use crate::fault::PlanTextFault;
 use crate::follow::follow;
 use crate::judge::PlanJudge;
 use crate::limit::MOST_PLAN_BYTES;
+use crate::places::is_number;
 use crate::scenario::word_at;
 use crate::sides::Sides;
-use crate::table::{Fields, Trails, all_paths};
+use crate::table::{Trails, all_paths};
+use fleet_history::Row;
 use fleet_map::text::first_line;
 use std::alloc::{AllocError, Allocator, Global};
+use std::mem;
 
-/// The words that were read of a cell: its robot's, its column's and its row's.
+/// What the last line was, with what was read of its cell.
 #[derive(Clone, Copy)]
-struct Group<'a> {
-    agent: &'a [u8],
-    x: &'a [u8],
-    y: &'a [u8],
-}
-
-/// No words of a cell of this robot yet.
-fn no_group(agent: &[u8]) -> Group<'_>
-    ensures { group result ≡ no_group agent.now }
-{
-    Group {
-        agent,
-        x: &[],
-        y: &[],
-    }
+enum Part {
+    /// The line `schedule:`.
+    Begin,
+    /// A robot's name.
+    Name,
+    /// The column of a cell.
+    Column(u32),
+    /// The row of a cell, which is this one.
+    Row(u32),
+    /// The time of a cell, which is its last line.
+    Cell,
 }
 
 /// Whether a word is `agentK:`.
@@ -53,90 +53,148 @@ fn robot_in(word: &[u8]) -> &[u8]
     &word[5..word.len() - 1]
 }
 
-/// Adds the cell of a group at a time, and returns the group after it; `None` if it is not the next.
-fn add_cell_of<'a>(
-    alloc: Global,
-    sides: Sides,
-    paths: &mut Trails,
-    found: Group<'a>,
-    time: &'a [u8],
-) -> Result<Option<Group<'a>>, AllocError>
-    ensures read { IfOk result (λ more. option_map (λ g. drafted (trails paths.new) (group g)) more ≡ with_cell_of sides.width sides.height (trails paths.old) (group found.entry) time.now) }
+/// Whether a line is that of this robot.
+fn names(robot: usize, line: &[u8]) -> bool
+    ensures { result ≡ names robot line.now }
+{
+    let word = word_at(line, 0);
+    is_robot(word) && is_number(robot, robot_in(word))
+}
+
+/// The column of a line `- x: COLUMN`.
+fn column_of(line: &[u8]) -> Option<u32>
+    ensures { result ≡ column_of line.now }
+{
+    if word_at(line, 0) == b"-".as_slice() && word_at(line, 1) == b"x:".as_slice() {
+        coordinate_of(word_at(line, 2))
+    } else {
+        None
+    }
+}
+
+/// The row of a line `y: ROW`.
+fn row_of(line: &[u8]) -> Option<u32>
+    ensures exact { result ≡ row_of line.now }
+    ensures small { IfSome result (λ row. row ≤ 1024) }
+{
+    if word_at(line, 0) == b"y:".as_slice() {
+        coordinate_of(word_at(line, 1))
+    } else {
+        None
+    }
+}
+
+/// Whether a line is `t: TIME` with this time.
+fn is_at(time: usize, line: &[u8]) -> bool
+    ensures { result ≡ is_at time line.now }
+{
+    word_at(line, 0) == b"t:".as_slice() && is_number(time, word_at(line, 1))
+}
+
+/// Begins the path of the next robot; `None` if the line is not that robot's, or there are too many.
+fn add_name(alloc: Global, paths: &mut Trails, line: &[u8]) -> Result<Option<Part>, AllocError>
+    ensures read { IfOk result (λ more. option_map (λ part. drafted (trails paths.new) part) more ≡ with_name (trails paths.old) line.now) }
     ensures short { AreShort (trails paths.old) → IfOk result (λ _. AreShort (trails paths.new)) }
 {
-    let fields = Fields {
-        agent: found.agent,
-        time,
-        row: found.y,
-        column: found.x,
-    };
-    match paths.add_fields(alloc, sides, fields)? {
-        Some(()) => Ok(Some(no_group(found.agent))),
+    let robots = paths.whole.len();
+    if !names(robots + 1, line) || robots >= MOST_PLAN_BYTES - 1 {
+        return Ok(None);
+    }
+    let before = mem::replace(&mut paths.path, Vec::new(alloc));
+    paths.whole.push(Row::from_vec(before))?;
+    Ok(Some(Part::Name))
+}
+
+/// Adds a cell, if the line has the next time.
+fn add_cell_at(paths: &mut Trails, cell: u32, line: &[u8]) -> Result<Option<Part>, AllocError>
+    ensures read { IfOk result (λ more. option_map (λ part. drafted (trails paths.new) part) more ≡ with_time (trails paths.old) cell line.now) }
+    ensures short { AreShort (trails paths.old) → IfOk result (λ _. AreShort (trails paths.new)) }
+{
+    if !is_at(paths.path.len(), line) {
+        return Ok(None);
+    }
+    match paths.add_cell(cell)? {
+        Some(()) => Ok(Some(Part::Cell)),
         None => Ok(None),
     }
 }
 
-/// Adds one more line, and returns the group after it; `None` if it is none of a schedule.
-fn add_scheduled<'a>(
+/// Begins one more cell, or the path of the next robot.
+fn add_next(alloc: Global, paths: &mut Trails, line: &[u8]) -> Result<Option<Part>, AllocError>
+    ensures read { IfOk result (λ more. option_map (λ part. drafted (trails paths.new) part) more ≡ with_next (trails paths.old) line.now (column_of line.now)) }
+    ensures short { AreShort (trails paths.old) → IfOk result (λ _. AreShort (trails paths.new)) }
+{
+    match column_of(line) {
+        Some(column) => Ok(Some(Part::Column(column))),
+        None => add_name(alloc, paths, line),
+    }
+}
+
+/// What a line is after one that was this; `None` if it may not stand there. A cell that it ends is added.
+fn add_scheduled(
     alloc: Global,
     sides: Sides,
     paths: &mut Trails,
-    found: Group<'a>,
-    line: &'a [u8],
-) -> Result<Option<Group<'a>>, AllocError>
-    ensures read { IfOk result (λ more. option_map (λ g. drafted (trails paths.new) (group g)) more ≡ with_scheduled sides.width sides.height (trails paths.old) (group found.entry) line.now) }
+    part: Part,
+    line: &[u8],
+) -> Result<Option<Part>, AllocError>
+    ensures read { IfOk result (λ more. option_map (λ next. drafted (trails paths.new) next) more ≡ with_scheduled sides.width sides.height (trails paths.old) part line.now) }
     ensures short { AreShort (trails paths.old) → IfOk result (λ _. AreShort (trails paths.new)) }
 {
-    let (first, second) = (word_at(line, 0), word_at(line, 1));
-    if first == b"-".as_slice() && second == b"x:".as_slice() {
-        let x = word_at(line, 2);
-        return Ok(Some(Group {
-            agent: found.agent,
-            x,
-            y: &[],
-        }));
+    match part {
+        Part::Begin => Ok(if names(0, line) {
+            Some(Part::Name)
+        } else {
+            None
+        }),
+        Part::Name => Ok(match column_of(line) {
+            Some(column) => Some(Part::Column(column)),
+            None => None,
+        }),
+        Part::Column(column) => Ok(match row_of(line) {
+            Some(row) => Some(Part::Row(sides.cell_at(column, row))),
+            None => None,
+        }),
+        Part::Row(cell) => add_cell_at(paths, cell, line),
+        Part::Cell => add_next(alloc, paths, line),
     }
-    if first == b"y:".as_slice() {
-        return Ok(Some(Group {
-            agent: found.agent,
-            x: found.x,
-            y: second,
-        }));
+}
+
+/// Whether the lines may end after such a line.
+fn is_whole(part: Part) -> bool
+    ensures { result ≡ is_whole part }
+{
+    match part {
+        Part::Begin | Part::Name | Part::Column(_) | Part::Row(_) => false,
+        Part::Cell => true,
     }
-    if first == b"t:".as_slice() {
-        return add_cell_of(alloc, sides, paths, found, second);
-    }
-    if is_robot(first) {
-        return Ok(Some(no_group(robot_in(first))));
-    }
-    Ok(None)
 }
 
 /// The paths in the lines after `schedule:`; this is the number of the first of them.
-#[tactic(auto, unfolding(crate::specs::Schedule::cells_of))]
-fn read_cells(
+#[tactic(auto, unfolding(crate::specs::Schedule::robots_of))]
+fn read_robots(
     alloc: Global,
     sides: Sides,
     number: u32,
     text: &[u8],
 ) -> Result<Trails, PlanTextFault>
     requires { number + length text.now ≤ 2 + MOST_PLAN_BYTES }
-    ensures read { Gives trails result (cells_of sides.width sides.height no_trails (no_group []) number (lines_of text.now)) }
+    ensures read { Gives trails result (robots_of sides.width sides.height no_trails Part.Begin number (lines_of text.now)) }
     ensures short { IfOk result (λ t. AreShort (trails t)) }
 {
     let mut paths = Trails::new(alloc);
-    let mut found = no_group(&[]);
+    let mut part = Part::Begin;
     let mut number = number;
     let mut rest = text;
     while let Some((line, after)) = first_line(rest) {
-        let Some(more) = add_scheduled(alloc, sides, &mut paths, found, line)? else {
+        let Some(next) = add_scheduled(alloc, sides, &mut paths, part, line)? else {
             return Err(PlanTextFault::Line(number));
         };
-        found = more;
+        part = next;
         number += 1;
         rest = after;
     }
-    if paths.has_cells() {
+    if is_whole(part) {
         Ok(paths)
     } else {
         Err(PlanTextFault::Line(number))
@@ -156,7 +214,7 @@ fn read_lines(alloc: Global, sides: Sides, text: &[u8]) -> Result<Trails, PlanTe
         number += 1;
         rest = after;
         if word_at(line, 0) == b"schedule:".as_slice() {
-            return read_cells(alloc, sides, number, rest);
+            return read_robots(alloc, sides, number, rest);
         }
     }
     Err(PlanTextFault::Line(number))
@@ -166,7 +224,8 @@ fn read_lines(alloc: Global, sides: Sides, text: &[u8]) -> Result<Trails, PlanTe
 /// number, and then for each cell of its path, by time, the lines `- x: COLUMN`, `y: ROW` and `t: TIME`. A robot whose
 /// path has ended stays there. Such a plan names no goals.
 ///
-/// The fault is the first line that is none of these, or with which a cell is not the next one; or `NoMemory`.
+/// The fault is the first line that is not the next of these, which is the one after the last where the text ends
+/// within a cell or before a robot's first one; or `NoMemory`.
 pub(crate) fn read_schedule<B: Allocator + Copy>(
     alloc: Global,
     sides: Sides,

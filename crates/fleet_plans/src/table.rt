@@ -24,11 +24,11 @@ use std::mem;
 
 /// The words of a line.
 #[derive(Clone, Copy)]
-pub(crate) struct Fields<'a> {
-    pub(crate) agent: &'a [u8],
-    pub(crate) time: &'a [u8],
-    pub(crate) row: &'a [u8],
-    pub(crate) column: &'a [u8],
+struct Fields<'a> {
+    agent: &'a [u8],
+    time: &'a [u8],
+    row: &'a [u8],
+    column: &'a [u8],
 }
 
 /// The words of a line, between commas.
@@ -65,14 +65,14 @@ impl Trails {
     }
 
     /// Whether the last robot has a cell.
-    pub(crate) fn has_cells(&self) -> bool
+    fn has_cells(&self) -> bool
         ensures { result ≡ nat_lt 0 (length self.now.path.items) }
     {
         !self.path.is_empty()
     }
 
     /// Adds the next cell of the last robot; `None` if its path is too long.
-    fn add_cell(&mut self, cell: u32) -> Result<Option<()>, AllocError>
+    pub(crate) fn add_cell(&mut self, cell: u32) -> Result<Option<()>, AllocError>
         ensures read { IfOk result (λ done. option_map (λ _. trails self.new) done ≡ with_cell (trails self.old) cell) }
         ensures short { AreShort (trails self.old) → IfOk result (λ _. AreShort (trails self.new)) }
     {
@@ -120,7 +120,7 @@ impl Trails {
     }
 
     /// Adds the cell that these words name; `None` if it is not the next.
-    pub(crate) fn add_fields(
+    fn add_fields(
         &mut self,
         alloc: Global,
         sides: Sides,

@@ -19,6 +19,7 @@ use Rattle.fleet_history.proofs.Next.{next-clients, start-closed}
 use Rattle.fleet_history.proofs.Rings.{ring-after, ring-begins, ring-next}
 use Rattle.fleet_planner.specs.Planned.{IsAdvancingTick}
 use Rattle.fleet_bound.specs.Bound.{KeepsBound}
+use Rattle.fleet_bound.specs.Roomy.{AdvancesIfRoomy, AreRoomy}
 use Rattle.fleet_bound.proofs.BoundLaws.{bound-legal, bound-next}
 use Rattle.fleet_reopen.specs.Chapters.{AreChapters, first, next, all_orders, all_notices}
 
@@ -64,3 +65,12 @@ chain-bound {A = A} m o before h (first legal advancing same) keeps = bound-lega
 chain-bound {A = A} m o all g (next {before} {h} chain legal advancing same more) keeps =
     bound-legal m g legal advancing
     (subst (λ (p : Opening A). KeepsBound m (start p)) (sym same) (bound-next m h (chain-legal m (EachTick (IsAdvancingTick m)) o before h chain) (chain-bound m o before h chain keeps)))
+
+-- what each chapter of a chain has follows of each
+chain-weaker : {A : Type 0} (m : Floor) (P Q : History A → Type 0) (o : Opening A) (before : List (History A)) (h : History A) → ((k : History A) → P k → Q k) → AreChapters m P o before h → AreChapters m Q o before h
+chain-weaker m P Q o before h so (first legal has same) = first legal (so h has) same
+chain-weaker m P Q o all g so (next {before} {h} chain legal has same more) = next (chain-weaker m P Q o before h so chain) legal (so g has) same more
+
+-- so it is where worlds promise that each tick advances, since all errands go to roomy cells
+pub chain-roomy : {A : Type 0} (m : Floor) (o : Opening A) (before : List (History A)) (h : History A) → AreChapters m (λ (k : History A). AreRoomy m k × AdvancesIfRoomy m k) o before h → KeepsBound m (start o) → KeepsBound m h
+chain-roomy {A = A} m o before h chain = chain-bound m o before h (chain-weaker m (λ (k : History A). AreRoomy m k × AdvancesIfRoomy m k) (EachTick (IsAdvancingTick m)) o before h (λ k has. has.1 has.0) chain)

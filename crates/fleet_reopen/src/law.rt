@@ -2,6 +2,7 @@
 
 ghost use Rattle.std.specs.Prelude.{◌≡◌, ◌<◌, ℕ, List, length, true};
 ghost use Rattle.fleet_bound.specs.Bound.{KeepsBound};
+ghost use Rattle.fleet_bound.specs.Roomy.{AdvancesIfRoomy, AreRoomy};
 ghost use Rattle.fleet_grid.specs.Floor.{Floor};
 ghost use Rattle.fleet_history.specs.declared.history.Opening.{Opening};
 ghost use Rattle.fleet_history.specs.History.{History, start, clients, client_at, is_closed, unknown_client};
@@ -24,7 +25,8 @@ pub fn reopened_is_next<A>()
 
 /// Over chapters that follow one another, whichever worlds made them, no step has a conflict; each notice of a client
 /// that the first chapter does not know was made once, and the notices, the orders and the errands are numbered
-/// through; who is closed stays closed; and where each tick advances, the bound on waits is kept.
+/// through; who is closed stays closed; and where each tick advances, as each does if all errands go to roomy cells, the
+/// bound on waits is kept.
 pub fn chapters_are_one_run<A>()
     ensures conflicts { (m : Floor) (o : Opening A) (before : List (History A)) (h : History A) →
         AreChapters m (IsLegal m) o before h → HasNoConflict m h }
@@ -36,4 +38,6 @@ pub fn chapters_are_one_run<A>()
         is_closed (start g.opening) c ≡ true }
     ensures bounded { (m : Floor) (o : Opening A) (before : List (History A)) (h : History A) →
         AreChapters m (EachTick (IsAdvancingTick m)) o before h → KeepsBound m (start o) → KeepsBound m h }
+    ensures roomy { (m : Floor) (o : Opening A) (before : List (History A)) (h : History A) →
+        AreChapters m (λ k. AreRoomy m k × AdvancesIfRoomy m k) o before h → KeepsBound m (start o) → KeepsBound m h }
 {}

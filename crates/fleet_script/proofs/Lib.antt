@@ -4,3 +4,4 @@ pub mod Heads
 pub mod Forms
 pub mod Values
 pub mod Readings
+pub mod Rolls

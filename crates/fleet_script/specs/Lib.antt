@@ -1,5 +1,6 @@
 pub mod Numbers
 pub mod Script
+pub mod Runs
 pub mod Shown
 pub mod Grammar
 pub mod Bundle

@@ -10,6 +10,7 @@ use Rattle.fleet_script.specs.declared.script.ScriptFault.{ScriptFault}
 use Rattle.fleet_script.specs.declared.script.ScriptFault.TheVariants.{Line, NoMemory}
 use Rattle.fleet_script.specs.declared.lines.EventLine.{EventLine}
 use Rattle.fleet_script.specs.declared.lines.EventLine.TheVariants.{Nothing, Events, Other}
+use Rattle.fleet_script.specs.Runs.{unrolled, numbered}
 use Rattle.fleet_script.specs.Event.{Said}
 use Rattle.fleet_script.specs.Event as said
 use Rattle.fleet_script.specs.Script as spec
@@ -27,7 +28,7 @@ abbrev pub headed : {A : Type 0} → Head A → List Event → List ℕ → spec
 headed h events lines = record { starts = option_map (λ v. v.items) h.starts; clients = h.clients; south = h.south; turns = h.turns; limits = h.limits; events = events; lines = lines }
 
 abbrev pub shown : {A : Type 0} → Draft A → spec.Draft
-shown d = headed d.head d.events.items d.lines.items
+shown d = headed d.head (unrolled d.runs.items) (numbered d.runs.items)
 
 -- whether a line was taken, of which a head comes to be this one; where it was not, the head is as it was
 abbrev pub IsTaken : Bool → Option spec.Draft → spec.Draft → spec.Draft → Type 0

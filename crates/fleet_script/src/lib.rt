@@ -8,6 +8,8 @@ mod header;
 mod law;
 mod lines;
 mod numbers;
+mod run;
+mod runs;
 mod script;
 
 pub use bundle::split_bundle;
@@ -16,4 +18,6 @@ pub use header::Head;
 pub use law::reading_is_by_grammar;
 pub use lines::{EventLine, Repeat, event_line};
 pub use numbers::one_small_number;
-pub use script::{Script, ScriptFault, read_script};
+pub use run::Run;
+pub use runs::ScriptRuns;
+pub use script::{Script, ScriptFault, read_runs, read_script};

@@ -93,7 +93,8 @@ fn post(words: &[u8]) -> Option<Event>
 
 /// How many ticks.
 fn tick_count(words: &[u8]) -> Option<u32>
-    ensures { result ≡ ticks_in (words_of words.now) }
+    ensures exact { result ≡ ticks_in (words_of words.now) }
+    ensures some { IfSome result (λ n. 1 ≤ n) }
 {
     if first_word(words).is_none() {
         return Some(1);
@@ -106,7 +107,8 @@ fn tick_count(words: &[u8]) -> Option<u32>
 
 /// The events of an event line, by its first word and the others.
 pub(crate) fn events_of_line(key: &[u8], words: &[u8]) -> Option<Repeat>
-    ensures { option_map repeated result ≡ events_of key.now (words_of words.now) }
+    ensures exact { option_map repeated result ≡ events_of key.now (words_of words.now) }
+    ensures some { IfSome result (λ more. 1 ≤ more.times) }
 {
     let mut times = 1;
     let event = if key == b"post".as_slice() {

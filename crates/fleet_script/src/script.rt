@@ -1,17 +1,20 @@
 //! Scripts: what a fleet begins with, and the events that follow.
 
-ghost use Rattle.std.specs.Prelude.{◌≡◌, ◌≤◌, ◌+◌, ◌<◌, ◌++◌, ◌^◌, length, replicate, map, IfOk, IfErr, OnOk, Some, Ok, Err, ℕ};
+ghost use Rattle.std.specs.Prelude.{◌≡◌, ◌≤◌, ◌+◌, ◌<◌, ◌^◌, length, map, IfOk, IfErr, Some, Ok, Err, ℕ};
 ghost use Rattle.std.specs.Option.{option_map};
 ghost use Rattle.fleet_map.specs.Text.{words_of, lines_of};
 ghost use Rattle.fleet_script.specs.Script.{with_header, with_events, with_words, with_line, draft_of, or_line, script_of, blank_draft, plan_from, Plan};
 ghost use Rattle.fleet_script.specs.Grammar.{IsScript, IsFirstFault, lines_in};
 ghost use Rattle.fleet_script.specs.Numbers.{numbers_in};
+ghost use Rattle.fleet_script.specs.Runs.{runs_plan};
 ghost use Rattle.fleet_script.specs.Shown.{repeated, shown, plan, Gives};
 ghost use Rattle.fleet_script.specs.declared.lines.Repeat.{Repeat};
 ghost use Rattle.fleet_script.specs.declared.script.ScriptFault.{ScriptFault};
 
 use crate::header::Head;
 use crate::lines::{Repeat, events_of_line};
+use crate::run::Run;
+use crate::runs::{ScriptRuns, unroll};
 use fleet_book::{Event, Limits};
 use fleet_map::text::{first_line, first_word};
 use std::alloc::{AllocError, Allocator, Global};
@@ -65,20 +68,7 @@ impl From<AllocError> for ScriptFault {
 #[derive(Drop)]
 struct Draft<A: Allocator + Copy = Global> {
     head: Head<A>,
-    events: Vec<Event, A>,
-    lines: Vec<u32, A>,
-}
-
-/// Puts an item after the others, this many times.
-fn add_times<T: Copy + Drop, A: Allocator + Copy>(
-    items: &mut Vec<T, A>,
-    item: T,
-    times: u32,
-) -> Result<(), AllocError>
-    ensures { OnOk result (items.new.items ≡ items.old.items ++ replicate times item) }
-{
-    let count = items.len() + times as usize;
-    items.resize(count, item)
+    runs: Vec<Run, A>,
 }
 
 impl<A: Allocator + Copy> Draft<A> {
@@ -88,17 +78,21 @@ impl<A: Allocator + Copy> Draft<A> {
     {
         Draft {
             head: Head::new(),
-            events: Vec::new(alloc),
-            lines: Vec::new(alloc),
+            runs: Vec::new(alloc),
         }
     }
 
     /// Adds the events of one more line.
     fn add_events(&mut self, number: u32, more: Repeat) -> Result<(), AllocError>
+        requires { 1 ≤ more.times }
         ensures { IfOk result (λ done. shown self.new ≡ with_events (shown self.old) number (repeated more)) }
     {
-        add_times(&mut self.events, more.event, more.times)?;
-        add_times(&mut self.lines, number, more.times)
+        self.runs.push(Run {
+            event: more.event,
+            times: more.times,
+            line: number,
+        })?;
+        Ok(())
     }
 
     /// Adds one more header line, by its first word and the others.
@@ -128,7 +122,7 @@ impl<A: Allocator + Copy> Draft<A> {
         if let Some(more) = events_of_line(key, words) {
             return Ok(self.add_events(number, more)?);
         }
-        if !self.events.is_empty() {
+        if !self.runs.is_empty() {
             return Err(ScriptFault::Line(number));
         }
         self.add_header(alloc, number, key, words)
@@ -146,14 +140,10 @@ impl<A: Allocator + Copy> Draft<A> {
 }
 
 /// The script of a draft whose lines are all read; this is the number of the line after the last.
-fn finished<A: Allocator + Copy>(draft: Draft<A>, number: u32) -> Result<Script<A>, ScriptFault>
-    ensures { Gives plan result (or_line number (option_map (plan_from (shown draft)) (shown draft).starts)) }
+fn finished<A: Allocator + Copy>(draft: Draft<A>, number: u32) -> Result<ScriptRuns<A>, ScriptFault>
+    ensures { Gives runs_plan result (or_line number (option_map (plan_from (shown draft)) (shown draft).starts)) }
 {
-    let Draft {
-        head,
-        events,
-        lines,
-    } = draft;
+    let Draft { head, runs } = draft;
     let Head {
         starts,
         clients,
@@ -163,14 +153,13 @@ fn finished<A: Allocator + Copy>(draft: Draft<A>, number: u32) -> Result<Script<
     } = head;
     match starts {
         None => Err(ScriptFault::Line(number)),
-        Some(starts) => Ok(Script {
+        Some(starts) => Ok(ScriptRuns {
             starts,
             clients: clients.unwrap_or(1),
             limits: limits.limits(),
             south: south.unwrap_or(false),
             turns: turns.unwrap_or(16),
-            events,
-            lines,
+            runs,
         }),
     }
 }
@@ -192,11 +181,21 @@ pub fn read_script<A: Allocator + Copy>(alloc: A, bytes: &[u8]) -> Result<Script
     read_lines(alloc, bytes)
 }
 
-/// The script of all lines, from the first one on.
-#[tactic(auto, unfolding(crate::specs::Script::draft_of))]
+/// The script that the bytes are, with the events of its list.
 fn read_lines<A: Allocator + Copy>(alloc: A, bytes: &[u8]) -> Result<Script<A>, ScriptFault>
     requires { length bytes.now ≤ 16777216 }
     ensures { Gives plan result (script_of bytes.now) }
+{
+    let script = read_runs(alloc, bytes)?;
+    Ok(unroll(alloc, script)?)
+}
+
+/// The script that the bytes are, as `read_script` has it, with a run for each event line in place of a list of all
+/// events; or what is first at fault in them. It takes no more than some 50 bytes for each line.
+#[tactic(auto, unfolding(crate::specs::Script::draft_of))]
+pub fn read_runs<A: Allocator + Copy>(alloc: A, bytes: &[u8]) -> Result<ScriptRuns<A>, ScriptFault>
+    requires { length bytes.now ≤ 16777216 }
+    ensures { Gives runs_plan result (script_of bytes.now) }
 {
     let mut draft = Draft::new(alloc);
     let mut number = 1;

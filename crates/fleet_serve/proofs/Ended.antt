@@ -2,16 +2,16 @@
 use Rattle.std.proofs.Common.{◌≡◌, ◌∙◌, ℕ, ◌<◌, List, ◌++◌, length, Some, Result, Ok, Err, refl, sym, subst, arith}
 use Rattle.std.specs.Prelude.{Vec, slice_get, IfOk}
 use Rattle.std.specs.declared.alloc.Global.{Global}
-use Rattle.fleet_grid.specs.Floor.{Floor, IsNeighbour}
-use Rattle.fleet_grid.specs.Walk.{IsBridgeless}
+use Rattle.fleet_grid.specs.Floor.{Floor}
 use Rattle.fleet_book.specs.declared.event.Event.{Event}
 use Rattle.fleet_book.specs.declared.notice.Notice.{Notice}
 use Rattle.fleet_history.specs.History.{History, clock}
 use Rattle.fleet_history.specs.Legal.{IsLegal}
 use Rattle.fleet_history.specs.Laws.{orders, EachTick}
 use Rattle.fleet_history.specs.Notices.{notices}
-use Rattle.fleet_planner.specs.Planned.{IsPlanned, IsAdvancingTick}
+use Rattle.fleet_planner.specs.Planned.{IsPlanned}
 use Rattle.fleet_bound.specs.Bound.{WaitsAreBounded}
+use Rattle.fleet_bound.specs.Roomy.{AdvancesIfRoomy, HasBound}
 use Rattle.fleet_core.specs.Core.{World}
 use Rattle.fleet_lanes.specs.Ends.{ClientView}
 use Rattle.fleet_lanes.specs.Names.{LaneName}
@@ -79,8 +79,8 @@ module _ {A : Type 0} (began : World A) (h : History A) (number count : ℕ) (cs
 -- a serve that came to its end
 pub is-end : (began : World Global) (m : Floor) (h : History Global) (number ticks : ℕ) (rings : List (LaneName Global)) (cs : List (ClientView Global)) (rests : List (Vec Notice Global)) → number ≡ 0 → IsChapterSince began m number h → AreTold began number h cs rests → HasAll (length rings) cs
     → AreOn rings (cores cs) → AreDistinct (cores cs)
-    → (events : List Event) (most full : ℕ) → AllHaveRun events most cs full → IsLegal m h → EachTick (IsPlanned m began.ties) h → (IsBridgeless (IsNeighbour m) → EachTick (IsAdvancingTick m) h)
-    → (IsBridgeless (IsNeighbour m) → WaitsAreBounded m h) → ticks ≡ clock h
+    → (events : List Event) (most full : ℕ) → AllHaveRun events most cs full → IsLegal m h → EachTick (IsPlanned m began.ties) h → AdvancesIfRoomy m h
+    → (HasBound m h → WaitsAreBounded m h) → ticks ≡ clock h
     → IsEnd began events most (length rings) full m h number ticks rests
 is-end began m h number ticks rings cs rests first since told all on distinct events most full ran legal planned advancing bounded tick =
     let own : number ≡ began.number = omega (arith, first, since.later) in

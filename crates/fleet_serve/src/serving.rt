@@ -2,13 +2,12 @@
 
 ghost use Rattle.std.specs.Prelude.{◌≡◌, ◌<◌, ◌^◌, ◌⊎◌, length, Some, None, Err, IfOk, IfErr};
 ghost use Rattle.std.specs.List.{All};
-ghost use Rattle.fleet_grid.specs.Floor.{IsNeighbour};
-ghost use Rattle.fleet_grid.specs.Walk.{IsBridgeless};
 ghost use Rattle.fleet_history.specs.History.{history_of, clock};
 ghost use Rattle.fleet_history.specs.Legal.{IsLegal};
 ghost use Rattle.fleet_history.specs.Laws.{EachTick};
-ghost use Rattle.fleet_planner.specs.Planned.{IsPlanned, IsAdvancingTick};
+ghost use Rattle.fleet_planner.specs.Planned.{IsPlanned};
 ghost use Rattle.fleet_bound.specs.Bound.{WaitsAreBounded};
+ghost use Rattle.fleet_bound.specs.Roomy.{AdvancesIfRoomy, HasBound};
 ghost use Rattle.fleet_core.specs.Core.{opened_world, opening_of};
 ghost use Rattle.fleet_core.specs.Hooks.{laws_of};
 ghost use Rattle.fleet_core.specs.OpeningFaults.{IsNamed as IsNamedFault, IsRefused};
@@ -264,8 +263,8 @@ pub fn serve<R: Alloc<A = Global> + Threads + Sync + Wait, G: Gate + Sync>(
     ensures opening { IfOk result (λ s. (history_of s.last.chapter).opening ≡ opening_of script.now.starts.items script.now.clients script.now.limits (laws_of hooks)) }
     ensures legal { IfOk result (λ s. IsLegal s.last.grid (history_of s.last.chapter)) }
     ensures planned { IfOk result (λ s. EachTick (IsPlanned s.last.grid (laws_of hooks).ties) (history_of s.last.chapter)) }
-    ensures advancing { IfOk result (λ s. IsBridgeless (IsNeighbour s.last.grid) → EachTick (IsAdvancingTick s.last.grid) (history_of s.last.chapter)) }
-    ensures bounded { IfOk result (λ s. IsBridgeless (IsNeighbour s.last.grid) → WaitsAreBounded s.last.grid (history_of s.last.chapter)) }
+    ensures advancing { IfOk result (λ s. AdvancesIfRoomy s.last.grid (history_of s.last.chapter)) }
+    ensures bounded { IfOk result (λ s. HasBound s.last.grid (history_of s.last.chapter) → WaitsAreBounded s.last.grid (history_of s.last.chapter)) }
     ensures tick { IfOk result (λ s. s.last.tick ≡ clock (history_of s.last.chapter)) }
     ensures posted { IfOk result (λ s. TakesPosted (history_of s.last.chapter) script.now.events.items script.now.clients) }
     ensures all { IfOk result (λ s. s.lane_full ≡ 0 → length script.now.events.items < script.now.limits.orders →

@@ -2,14 +2,12 @@
 use Rattle.std.proofs.Common.{◌≡◌, ◌∙◌, ℕ, List, [], ◌∷◌, ◌++◌, Option, Some, None, refl, sym, ap, subst, append_assoc, append-nil}
 use Rattle.std.specs.Prelude.{Result, OnOk}
 use Rattle.std.proofs.lemmas.Result.{on_ok_weaker}
-use Rattle.fleet_grid.specs.Floor.{Floor, IsNeighbour}
-use Rattle.fleet_grid.specs.Walk.{IsBridgeless}
+use Rattle.fleet_grid.specs.Floor.{Floor}
 use Rattle.fleet_book.specs.declared.event.Event.{Event}
 use Rattle.fleet_book.specs.declared.event.Event.TheVariants.{Post, Take, Tick, Give, Collect, Shut}
 use Rattle.fleet_history.specs.History.{History}
-use Rattle.fleet_history.specs.Laws.{EachTick}
 use Rattle.fleet_history.specs.Legal.{IsLegal}
-use Rattle.fleet_planner.specs.Planned.{IsAdvancingTick}
+use Rattle.fleet_bound.specs.Roomy.{AdvancesIfRoomy}
 use Rattle.fleet_core.specs.declared.faults.TakeFault.TheVariants as take_fault
 use Rattle.fleet_core.specs.declared.faults.TickFault.TheVariants as tick_fault
 use Rattle.fleet_core.specs.declared.faults.ShutFault.TheVariants as shut_fault
@@ -34,7 +32,7 @@ adds-then (Some x) (Some y) (Some z) xs ys p q = q ∙ (ap (λ l. l ++ ys) p ∙
 -- ---- chapters one after another
 
 module _ {A : Type 0} where
-  pub sound-is : (m : Floor) (h g : History A) → g ≡ h → IsLegal m h → (IsBridgeless (IsNeighbour m) → EachTick (IsAdvancingTick m) h) → IsSound m g
+  pub sound-is : (m : Floor) (h g : History A) → g ≡ h → IsLegal m h → AdvancesIfRoomy m h → IsSound m g
   sound-is m h g same legal advancing = subst (IsSound m) (sym same) (record { legal = legal; advancing = advancing })
 
   turned-then : (b m e : Beginning A) (xs ys : List (ChapterView A)) → AreTurned b xs m → AreTurned m ys e → AreTurned b (xs ++ ys) e
@@ -65,7 +63,7 @@ module _ {A : Type 0} where
 
   -- the last chapter was kept
   pub keeps-last : {X E : Type 0} (r : Result X E) (a b : Option (List (ChapterView A))) (t : Talk A) (n : ℕ) (h : History A) → n ≡ t.world.number → h ≡ t.world.history
-      → IsLegal t.world.floor t.world.history → (IsBridgeless (IsNeighbour t.world.floor) → EachTick (IsAdvancingTick t.world.floor) t.world.history)
+      → IsLegal t.world.floor t.world.history → AdvancesIfRoomy t.world.floor t.world.history
       → OnOk r (Adds a b (record { number = n; history = h } ∷ [])) → OnOk r (KeepsLast a b t)
   keeps-last r a b t n h number history legal advancing = on_ok_weaker r (λ added. (
     record { legal = legal; advancing = advancing },

@@ -2,13 +2,10 @@
 use Rattle.std.proofs.Common.{◌≡◌, ◌∙◌, ℕ, Bool, true, List, [], ◌∷◌, Option, Some, None, refl, sym, ap, subst, append-nil}
 use Rattle.std.specs.Prelude.{replicate}
 use Rattle.std.specs.declared.alloc.Global.{Global}
-use Rattle.fleet_grid.specs.Floor.{IsNeighbour}
-use Rattle.fleet_grid.specs.Walk.{IsBridgeless}
 use Rattle.fleet_history.specs.declared.history.Chapter.{Chapter}
 use Rattle.fleet_history.specs.History.{history_of}
-use Rattle.fleet_history.specs.Laws.{EachTick}
 use Rattle.fleet_history.specs.Legal.{IsLegal}
-use Rattle.fleet_planner.specs.Planned.{IsAdvancingTick}
+use Rattle.fleet_bound.specs.Roomy.{AdvancesIfRoomy}
 use Rattle.fleet_book.specs.declared.event.Event.{Event}
 use Rattle.fleet_world.specs.declared.reply.Reply.{Reply}
 use Rattle.fleet_world.specs.Talk.{Talk, TalkStep, next_talk}
@@ -70,7 +67,7 @@ kept-added old new kept = record { out = kept.out ∙ sym (append-nil old.out.it
 
 -- the chapter that was handed out is the one that the world was in
 pub hands-over : (s t : Talk Global) (chapter : Chapter Global) → chapter.number ≡ s.world.number → history_of chapter ≡ s.world.history → IsLegal s.world.floor s.world.history
-    → (IsBridgeless (IsNeighbour s.world.floor) → EachTick (IsAdvancingTick s.world.floor) s.world.history) → t ≡ next_talk s → Hands s (Some chapter) t
+    → AdvancesIfRoomy s.world.floor s.world.history → t ≡ next_talk s → Hands s (Some chapter) t
 hands-over s t chapter number history legal advancing next = (
   rw (number, history) refl,
   record { legal = legal; advancing = advancing },

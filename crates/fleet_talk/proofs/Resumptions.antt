@@ -206,11 +206,17 @@ module _ (settings : Settings) (s : Fleet Global) (k : KeptChapters) where
 -- ---- a fleet that goes on
 
 module _ (on : Terms) (c : ChapterView Global) (s : Talk Global) (same : s ≡ resumed on.kit on.floor on.head c) (may : MayResume on.kit on.floor on.head c) where
-  pub resumption-whole : (known a b : Option (List ℕ)) (k : KeptChapters) (met : Bool) → IfSome known (Whole on.settings (opened_fleet s) k a b met)
+  pub resumption-whole : (known a b : Option (List ℕ)) (k : KeptChapters) (before : Option (List (ChapterView Global))) (met : Bool) → before ≡ k.old
+      → IfSome known (Whole on.settings (opened_fleet s) (record { old = before; new = k.new }) a b met)
       → IfSome known (λ bytes. (text : List ℕ) × (chapters : List (ChapterView Global)) × IsResumption on c bytes text chapters met × Appends a b text × Adds k.old k.new chapters)
-  resumption-whole None a b k met h = tt
-  resumption-whole (Some bytes) a b k met (text, chapters, is, taken, kept) =
-      (text, chapters, record { may = may; answered = subst (λ (x : Talk Global). IsAnswered on.settings (opened_fleet x) bytes text chapters met) same is }, taken, kept)
+  resumption-whole None a b k before met eq h = tt
+  resumption-whole (Some bytes) a b k before met eq (text, chapters, is, taken, kept) = (
+    text,
+    chapters,
+    record { may = may; answered = subst (λ (x : Talk Global). IsAnswered on.settings (opened_fleet x) bytes text chapters met) same is },
+    taken,
+    subst (λ (o : Option (List (ChapterView Global))). Adds o k.new chapters) eq kept,
+  )
 
   pub resumption-broken : (known a b : Option (List ℕ)) → IfSome known (Broken on.settings (opened_fleet s) a b) → IfSome known (λ bytes. (text : List ℕ) × IsResumptionBegun on c bytes text × Appends a b text)
   resumption-broken None a b h = tt

@@ -1,14 +1,12 @@
 -- The chapters of a conversation, as a sink keeps them.
 use Rattle.std.specs.Prelude.{⊤, ◌≡◌, ℕ, ◌+◌, List, [], ◌∷◌, ◌++◌, Option, Some, None}
-use Rattle.fleet_grid.specs.Floor.{Floor, IsNeighbour}
-use Rattle.fleet_grid.specs.Walk.{IsBridgeless}
+use Rattle.fleet_grid.specs.Floor.{Floor}
 use Rattle.fleet_history.specs.declared.history.Chapter.{Chapter}
 use Rattle.fleet_history.specs.declared.history.Opening.{Opening}
 use Rattle.fleet_history.specs.History.{History, history_of}
-use Rattle.fleet_history.specs.Laws.{EachTick}
 use Rattle.fleet_history.specs.Legal.{IsLegal}
 use Rattle.fleet_history.specs.Next.{next_opening}
-use Rattle.fleet_planner.specs.Planned.{IsAdvancingTick}
+use Rattle.fleet_bound.specs.Roomy.{AdvancesIfRoomy}
 use Rattle.fleet_core.specs.Core.{World}
 use Rattle.fleet_world.specs.Talk.{Talk}
 
@@ -26,10 +24,10 @@ chapter_shown c = record { number = c.number; history = history_of c }
 abbrev pub chapter_in : {A : Type 0} → World A → ChapterView A
 chapter_in w = record { number = w.number; history = w.history }
 
--- a history is legal, and where the map has no bridge each tick of it advances
+-- a history is legal, and if all its errands go to roomy cells each tick of it advances
 pub record IsSound {A : Type 0} (m : Floor) (h : History A) : Type 0 where
   pub legal : IsLegal m h
-  pub advancing : IsBridgeless (IsNeighbour m) → EachTick (IsAdvancingTick m) h
+  pub advancing : AdvancesIfRoomy m h
 
 -- ---- one after another
 

@@ -43,12 +43,23 @@ pub trait ChapterSink {
     /// The chapters that it kept, in order, where that is known; of files it is not.
     ghost kept: { Self → Option (List (ChapterView Global)) };
 
-    /// Keeps a chapter, which is legal, and each tick of which advances where its map has no bridge. After a fault it
+    /// Keeps a chapter, which is legal, and each tick of which advances if all its errands go to roomy cells. After a fault it
     /// is not kept.
     fn keep(&mut self, chapter: &Chapter) -> Result<(), SinkFault>
         requires sound { (m : Floor) × IsSound m (history_of chapter.now) }
         ensures ok { OnOk result (Adds (kept self.old) (kept self.new) (chapter_shown chapter.now ∷ [])) }
         ensures err { OnErr result (kept self.new ≡ kept self.old) };
+
+    /// What there is to say of the last chapter that it could not keep: its file, and why. Empty where that is not
+    /// known.
+    fn fault(&self) -> &str {
+        ""
+    }
+
+    /// Learns that a fleet goes on, with the number of the chapter that was kept and the tick at its end.
+    fn goes_on(&mut self, _chapter: u32, _tick: u64)
+        ensures kept { kept self.new ≡ kept self.old }
+    {}
 }
 
 /// The reader of the lines, the writer of the answers, and the sink of the chapters.

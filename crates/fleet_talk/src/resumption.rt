@@ -142,13 +142,17 @@ pub fn resume<R: Alloc<A = Global>, I: Read, W: Write, S: ChapterSink>(
         × AppendsPrefix (W.contents ends.old.output) (W.contents ends.new.output) text) }
 {
     let opened = reopen(rt.alloc(), ground, &chapter);
+    let number = chapter.number;
     // A chapter may take much memory, and is not needed any more.
     drop(chapter);
     match opened {
-        Ok(session) => match converse_open(rt, session, settings, ends) {
-            Ok(limited) => Ok(limited),
-            Err(fault) => Err(ResumeFault::Talk(fault)),
-        },
+        Ok(session) => {
+            ends.sink.goes_on(number, session.world.clock());
+            match converse_open(rt, session, settings, ends) {
+                Ok(limited) => Ok(limited),
+                Err(fault) => Err(ResumeFault::Talk(fault)),
+            }
+        }
         Err(fault) => Err(fault),
     }
 }

@@ -24,22 +24,30 @@ pub(crate) const HEAD: &str = r##"<!doctype html>
 }
 * { box-sizing: border-box; }
 body { margin: 0; font: 14px/1.45 system-ui, sans-serif; background: var(--page); color: var(--ink); }
-header { display: flex; flex-wrap: wrap; gap: 4px 20px; align-items: baseline; padding: 14px 16px 0; max-width: 1600px; margin: auto; }
+header { display: flex; flex-wrap: wrap; gap: 4px 20px; align-items: baseline; padding: 10px 16px 0; }
 h1 { font-size: 19px; margin: 0; }
 h2 { font-size: 13px; font-weight: 600; margin: 0 0 6px; color: var(--soft); }
 p { margin: 0; }
 .soft, header p { color: var(--soft); }
-main { display: grid; grid-template-columns: minmax(0, 1fr) 360px; gap: 14px; padding: 14px 16px; max-width: 1600px; margin: auto; align-items: start; }
-@media (max-width: 900px) { main { grid-template-columns: minmax(0, 1fr); } }
-aside { display: flex; flex-direction: column; gap: 14px; min-width: 0; }
+main { display: grid; grid-template-columns: minmax(0, 1fr) clamp(340px, 26vw, 480px); gap: 14px; padding: 10px 16px 14px; align-items: start; }
+.column { display: flex; flex-direction: column; gap: 14px; min-width: 0; }
+/* on a narrow screen one column: the map, its time, what is told of a cell and a robot, what is shown, the rest */
+@media (max-width: 900px) {
+  main { display: flex; flex-direction: column; align-items: stretch; }
+  .column { display: contents; }
+  .map { order: -4; }
+  #time { order: -3; }
+  .told-of { order: -2; }
+  .choices { order: -1; }
+}
 .card { background: var(--card); border: 1px solid var(--line); border-radius: 10px; padding: 12px; min-width: 0; }
 #map { display: block; width: 100%; border-radius: 6px; background: var(--floor); cursor: grab; }
 #map.held { cursor: grabbing; }
 :focus-visible { outline: 2px solid var(--accent); outline-offset: 2px; }
 .together { display: inline-flex; flex-wrap: wrap; gap: 4px; align-items: center; max-width: 100%; }
 .together button { padding: 1px 9px; }
-.banner { max-width: 1568px; margin: 14px auto 0; padding: 10px 14px; border: 2px solid var(--fault); border-radius: 10px; background: var(--card); }
-@media (max-width: 1600px) { .banner { margin: 14px 16px 0; } }
+.together select { flex: 1 1 110px; min-width: 0; }
+.banner { margin: 10px 16px 0; padding: 10px 14px; border: 2px solid var(--fault); border-radius: 10px; background: var(--card); }
 .banner p + p { margin-top: 6px; }
 .track { position: relative; display: flex; flex: 1; min-width: 120px; }
 #marks span { position: absolute; top: -3px; bottom: -3px; left: calc(8px + (100% - 16px) * var(--part) - 1.5px); width: 3px; background: var(--fault); pointer-events: none; }
@@ -50,7 +58,7 @@ aside { display: flex; flex-direction: column; gap: 14px; min-width: 0; }
 #heat-scale[hidden] { display: none; }
 .ramp { width: 120px; height: 10px; border: 1px solid var(--line); background: linear-gradient(to right, rgba(var(--heat), 0.12), rgba(var(--heat), 0.82)); }
 #speed { min-width: 108px; text-align: center; font-variant-numeric: tabular-nums; }
-.robot { display: flex; gap: 10px; align-items: center; margin-top: 4px; }
+.robot { display: flex; gap: 10px; align-items: start; justify-content: space-between; min-height: 2.9em; max-height: 7.3em; overflow: auto; margin-top: 4px; font-size: 13px; }
 #unpick { flex: none; white-space: nowrap; }
 .legend { display: flex; flex-wrap: wrap; gap: 4px 16px; margin: 8px 0 0; padding: 0; list-style: none; font-size: 12.5px; color: var(--soft); }
 .legend li { display: inline-flex; gap: 6px; align-items: center; }
@@ -74,10 +82,11 @@ dialog::backdrop { background: rgb(0 0 0 / 45%); }
 dialog form { margin-top: 10px; }
 .told { float: right; font-weight: 400; }
 .pick { padding: 0 6px; border-color: transparent; background: none; }
-.bar { display: flex; flex-wrap: wrap; gap: 8px 14px; align-items: center; margin-top: 10px; }
+.bar { display: flex; flex-wrap: wrap; gap: 8px 14px; align-items: center; }
+.bar + .bar { margin-top: 10px; }
 .bar input[type="range"] { flex: 1; min-width: 120px; margin: 0; accent-color: var(--accent); }
 #clock { font-variant-numeric: tabular-nums; min-width: 130px; text-align: right; }
-#hover { min-height: 1.45em; margin-top: 8px; font-variant-numeric: tabular-nums; }
+#hover { min-height: 1.45em; font-variant-numeric: tabular-nums; }
 #keys { margin-top: 8px; font-size: 12.5px; }
 button, select { max-width: 100%; font: inherit; padding: 3px 11px; border: 1px solid var(--line); border-radius: 7px; background: var(--page); color: var(--ink); cursor: pointer; }
 button:hover { border-color: var(--accent); }
@@ -85,7 +94,7 @@ label { display: inline-flex; gap: 5px; align-items: center; }
 .figures { display: grid; grid-template-columns: 1fr 1fr; gap: 8px 12px; margin: 0; }
 .figures dt { color: var(--soft); font-size: 12.5px; }
 .figures dd { margin: 0; font-size: 22px; font-weight: 600; font-variant-numeric: tabular-nums; }
-#bound { font-size: 12.5px; margin-top: 6px; }
+#bound { font-size: 12.5px; min-height: 2.9em; margin-top: 6px; }
 .chart { cursor: pointer; display: block; width: 100%; height: 92px; }
 .scroll { overflow: auto; max-height: 170px; margin: 0; padding: 0; }
 .tall { max-height: 330px; }
@@ -125,8 +134,11 @@ tr.picked > * { background: color-mix(in srgb, var(--accent) 30%, transparent); 
 </header>
 <section id="verdict" class="banner" aria-label="Verdict of the judge" hidden></section>
 <main>
-<section class="card stage" aria-label="Map and time">
+<div class="column">
+<section class="card map" aria-label="Map">
 <canvas id="map" tabindex="0" role="img" aria-label="Robots on the map" aria-describedby="keys"></canvas>
+</section>
+<section id="time" class="card" aria-label="Time">
 <div class="bar" role="group" aria-label="Time">
 <button type="button" id="play" aria-label="Play">&#9654;</button>
 <button type="button" id="back" aria-label="One tick back">&#8249;</button>
@@ -134,6 +146,27 @@ tr.picked > * { background: color-mix(in srgb, var(--accent) 30%, transparent); 
 <span class="track"><input type="range" id="slider" min="0" max="0" value="0" step="1" aria-label="Tick"><span id="marks" aria-hidden="true"></span></span>
 <span id="clock"></span>
 </div>
+</section>
+</div>
+<aside class="column">
+<section class="card told-of" aria-label="Cell, robot and legend">
+<p id="hover" class="soft"></p>
+<p class="robot"><span id="picked"></span> <button type="button" id="unpick" hidden>all robots</button></p>
+<ul class="legend" aria-label="Legend">
+<li><span class="sign disc"></span>robot with an errand</li>
+<li><span class="sign disc idle"></span>idle</li>
+<li><span class="sign shut"></span>shut: takes no more errands</li>
+<li><span class="sign goal"></span>goal, in its robot's colour</li>
+<li><span class="sign disc eldest"></span>has waited longest</li>
+<li><span class="sign disc arrives"></span>arrives</li>
+<li><span class="sign wall"></span>wall</li>
+<li><span class="sign shelf"></span>tree or water</li>
+<li><span class="sign mark chapter"></span>a chapter begins</li>
+<li><span class="sign mark shutting"></span>a robot is shut</li>
+<li><span class="sign mark refusal"></span>an order is refused</li>
+</ul>
+</section>
+<section class="card choices" aria-label="View">
 <div class="bar" role="group" aria-label="What is shown">
 <span class="together" role="group" aria-label="Speed">
 <button type="button" id="slower" aria-label="Slower">&minus;</button>
@@ -159,25 +192,9 @@ tr.picked > * { background: color-mix(in srgb, var(--accent) 30%, transparent); 
 <button type="button" id="show-help" aria-label="Keys">?</button>
 </span>
 </div>
-<p id="hover" class="soft"></p>
-<p class="robot"><span id="picked"></span> <button type="button" id="unpick" hidden>all robots</button></p>
-<p id="keys" class="soft">Space plays, arrow keys go a tick back or on, + and &minus; zoom, W A S D move the map, [ and ] pick a robot; ? shows all keys. Click a robot to follow it.</p>
+<p id="keys" class="soft">Space plays, arrow keys go a tick back or on, + and &minus; zoom, W A S D move the map, [ and ] pick a robot, F follows it; ? shows all keys. A click on a robot picks it.</p>
 <p id="heat-scale" class="soft" hidden><span id="heat-least">0</span> <span class="ramp" aria-hidden="true"></span> <span id="heat-most"></span></p>
-<ul class="legend" aria-label="Legend">
-<li><span class="sign disc"></span>robot with an errand</li>
-<li><span class="sign disc idle"></span>idle</li>
-<li><span class="sign shut"></span>shut: takes no more errands</li>
-<li><span class="sign goal"></span>goal, in its robot's colour</li>
-<li><span class="sign disc eldest"></span>has waited longest</li>
-<li><span class="sign disc arrives"></span>arrives</li>
-<li><span class="sign wall"></span>wall</li>
-<li><span class="sign shelf"></span>tree or water</li>
-<li><span class="sign mark chapter"></span>a chapter begins</li>
-<li><span class="sign mark shutting"></span>a robot is shut</li>
-<li><span class="sign mark refusal"></span>an order is refused</li>
-</ul>
 </section>
-<aside>
 <section class="card" aria-label="Figures">
 <dl class="figures">
 <div title="Errands done up to this tick"><dt>arrivals</dt><dd id="arrivals"></dd></div>

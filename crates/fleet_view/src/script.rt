@@ -786,6 +786,9 @@ function shadesOf(heat) {
 // the greatest width of a cell in pixels, and how far even a small map may be zoomed
 const MOST_CELL = 120;
 const LEAST_MOST_ZOOM = 4;
+// the least height of the map, and the margins below it, in pixels
+const LEAST_HIGH = 240;
+const BELOW = 48;
 
 class MapPlace {
   constructor(canvas, map) {
@@ -796,11 +799,15 @@ class MapPlace {
     this.middle = { x: map.width / 2, y: map.height / 2 };
   }
 
-  // Zoom and middle stay.
+  // The map is as high as it can be with its slider in the window; in one column it leaves room for what is told below it. Zoom
+  // and middle stay.
   resize() {
     const { height, width } = this.map;
     const room = this.canvas.clientWidth;
-    const high = Math.max(160, Math.min(room * height / width, window.innerHeight * 0.78));
+    const above = this.canvas.getBoundingClientRect().top + window.scrollY;
+    const isOneColumn = matchMedia('(max-width: 900px)').matches;
+    const below = isOneColumn ? window.innerHeight * 0.25 : element('time').offsetHeight + BELOW;
+    const high = Math.max(LEAST_HIGH, Math.min(room * height / width, window.innerHeight - above - below));
     this.ratio = window.devicePixelRatio || 1;
     this.canvas.style.height = `${high}px`;
     this.canvas.width = Math.round(room * this.ratio);
@@ -1093,6 +1100,13 @@ class MapGround extends MapPlace {
 
 const LEAST_NUMBERED = 9;
 const PATH_FRAMES = 30;
+// the radius of a robot in cells: small cells are filled
+const RADIUS = 0.38;
+const RADIUS_IN_SMALL_CELLS = 0.47;
+const SMALL_CELL = 20;
+// robots on one cell stand in a circle, and are drawn smaller
+const CROWDED = 0.24;
+const CROWDED_SIZE = 0.6;
 
 class MapView extends MapGround {
   constructor(canvas, replay) {
@@ -1105,12 +1119,14 @@ class MapView extends MapGround {
     this.other = new Int32Array(replay.robots);
     this.xs = new Float64Array(replay.robots);
     this.ys = new Float64Array(replay.robots);
+    this.crowded = new Uint8Array(replay.robots);
+    this.standing = new Uint16Array(replay.map.width * replay.map.height);
   }
 
-  // The robot that is drawn nearest to a point of the canvas, if one is near.
-  robotAt(x, y) {
+  // The robot that is drawn nearest to a point of the canvas, if one is within that many pixels, or on the point's cell.
+  robotAt(x, y, near) {
     let best = null;
-    let least = Math.max(this.view.scale * 0.55, 10 * this.ratio);
+    let least = Math.max(this.view.scale * 0.55, near * this.ratio);
     for (let robot = 0; robot < this.replay.robots; robot += 1) {
       const far = Math.hypot(this.xs[robot] - x, this.ys[robot] - y);
       if (far < least) [best, least] = [robot, far];
@@ -1139,6 +1155,35 @@ class MapView extends MapGround {
       this.xs[robot] = x + (nextX - x) * part;
       this.ys[robot] = y + (nextY - y) * part;
     }
+    this.partCrowds(part < 0.5 ? cells : other);
+  }
+
+  // Only an illegal trace has two robots on one cell: they are drawn next to each other, so that each is to be seen.
+  partCrowds(cells) {
+    const { crowded, standing } = this;
+    const crowds = new Map();
+    for (const cell of cells) standing[cell] += 1;
+    cells.forEach((cell, robot) => {
+      crowded[robot] = standing[cell] > 1 ? 1 : 0;
+      if (crowded[robot] === 1) crowds.set(cell, [...(crowds.get(cell) ?? []), robot]);
+    });
+    for (const cell of cells) standing[cell] = 0;
+    for (const robots of crowds.values()) this.standInCircle(robots);
+  }
+
+  standInCircle(robots) {
+    const far = CROWDED * this.view.scale;
+    robots.forEach((robot, place) => {
+      const angle = 2 * Math.PI * place / robots.length;
+      this.xs[robot] -= far * Math.cos(angle);
+      this.ys[robot] -= far * Math.sin(angle);
+    });
+  }
+
+  radiusOf(robot) {
+    const { view, ratio, crowded } = this;
+    const part = view.scale < SMALL_CELL * ratio ? RADIUS_IN_SMALL_CELLS : RADIUS;
+    return Math.max(view.scale * part, 2.4 * ratio) * (crowded[robot] === 1 ? CROWDED_SIZE : 1);
   }
 
   centreBetween(cell, other, part) {
@@ -1209,11 +1254,11 @@ class MapView extends MapGround {
   drawRobots(fraction) {
     const { pen, view, replay, colours } = this;
     const { frame, queues, shut } = replay.state;
-    const radius = Math.max(view.scale * 0.36, 2.4 * this.ratio);
     const numbered = view.scale >= LEAST_NUMBERED * this.ratio;
     const outlined = this.shows.heat || view.scale >= LEAST_NUMBERED * this.ratio;
     for (let robot = 0; robot < replay.robots; robot += 1) {
       const [x, y] = [this.xs[robot], this.ys[robot]];
+      const radius = this.radiusOf(robot);
       const idle = queues[robot].length === 0;
       pen.globalAlpha = this.strengthOf(robot);
       pen.fillStyle = idle ? colours.idle : this.colours.robots[robot].fill;
@@ -1230,17 +1275,17 @@ class MapView extends MapGround {
       if (numbered) this.drawNumber(robot, x, y, idle);
     }
     pen.globalAlpha = 1;
-    this.drawRings(radius, fraction, frame);
+    this.drawRings(fraction, frame);
   }
 
   // Round the eldest, the picked one, and those that arrive.
-  drawRings(radius, fraction, frame) {
+  drawRings(fraction, frame) {
     const { pen, view, replay, colours } = this;
     pen.lineWidth = Math.max(1.5 * this.ratio, Math.min(view.scale / 12, 5 * this.ratio));
     const ring = (robot, colour, factor) => {
       pen.strokeStyle = colour;
       pen.beginPath();
-      pen.arc(this.xs[robot], this.ys[robot], radius * factor, 0, 2 * Math.PI);
+      pen.arc(this.xs[robot], this.ys[robot], this.radiusOf(robot) * factor, 0, 2 * Math.PI);
       pen.stroke();
     };
     if (replay.eldest[frame] >= 0) ring(replay.eldest[frame], colours.ink, 1.2);
@@ -1260,7 +1305,9 @@ class MapView extends MapGround {
 
   drawNumber(robot, x, y, idle) {
     const { pen, view, colours } = this;
-    const size = Math.max(view.scale * (robot > 99 ? 0.32 : 0.42), 5.5 * this.ratio);
+    const small = view.scale < SMALL_CELL * this.ratio || this.crowded[robot] === 1;
+    const part = (robot > 99 ? 0.34 : 0.46) + (small ? 0.08 : 0);
+    const size = Math.max(view.scale * part, 5.5 * this.ratio) * (this.crowded[robot] === 1 ? CROWDED_SIZE : 1);
     pen.fillStyle = idle ? colours.digitsOnIdle : colours.robots[robot].digits;
     pen.font = `600 ${size.toFixed(1)}px system-ui, sans-serif`;
     pen.textAlign = 'center';
@@ -1544,6 +1591,17 @@ class RobotTable {
       const cells = Array.from({ length: 5 }, () => textCell(row));
       return { row, dot, button, cells, shown: [] };
     });
+  }
+
+  // Scrolls the table's own box, and nothing else, until the robot's row is in it.
+  reveal(robot) {
+    const { row } = this.rows[robot];
+    const table = row.closest('table');
+    const box = table.parentElement;
+    const top = row.offsetTop - table.tHead.offsetHeight;
+    const bottom = row.offsetTop + row.offsetHeight;
+    if (top < box.scrollTop) box.scrollTop = top;
+    else if (bottom > box.scrollTop + box.clientHeight) box.scrollTop = bottom - box.clientHeight;
   }
 
   // Only what changed is written.
@@ -2058,8 +2116,7 @@ class Page {
     this.setShown('heat', true);
   }
 
-  // The texts of a frame. While the replay plays, the table and the entries are written a few times a second, and the
-  // list of all events when it stands.
+  // The texts of a frame. While the replay plays, the table and the lists are written a few times a second.
   drawTexts() {
     const { replay } = this;
     const { frame } = replay.state;
@@ -2080,7 +2137,7 @@ class Page {
       this.listed = now;
       this.table.draw(this.colours, this.view.picked);
       showEntries(element('entries'), replay);
-      if (!this.player.playing) this.events.draw();
+      this.events.draw();
       element('picked').textContent = this.view.picked === null ? '' : robotText(replay, this.view.picked);
     }
     this.publish();
@@ -2197,7 +2254,7 @@ class Page {
     const known = this.setPicked(robot);
     this.draw();
     if (known) {
-      this.table.rows[robot].row.scrollIntoView({ block: 'nearest' });
+      this.table.reveal(robot);
       this.say(robotText(this.replay, robot));
     }
   }
@@ -2252,6 +2309,9 @@ const PAN = 0.2;
 const ZOOM = 1.5;
 // how far a pointer may move, in pixels, and still be a click
 const CLICK = 6;
+// how near to a robot, in pixels, a click or a tap picks it
+const NEAR_POINTER = 10;
+const NEAR_FINGER = 16;
 
 function keysOf(page) {
   const toggle = (name) => () => page.show(name, !page.view.shows[name]);
@@ -2296,7 +2356,9 @@ function keysOf(page) {
 function listenToKeys(page) {
   const keys = keysOf(page);
   window.addEventListener('keydown', (event) => {
-    if (event.ctrlKey || event.metaKey || event.altKey || element('help').open) return;
+    // on many keyboards [ and ] are typed with AltGr or Option
+    const typed = event.key === '[' || event.key === ']';
+    if (event.metaKey || ((event.ctrlKey || event.altKey) && !typed) || element('help').open) return;
     const key = keys[event.key] ?? keys[event.key.toLowerCase()];
     if (key === undefined) return;
     // a button or a box that has the focus keeps the space bar
@@ -2436,7 +2498,8 @@ class MapPointers {
     if (this.held.size > 0) return;
     this.canvas.classList.remove('held');
     if (!ended || place === undefined || this.moved) return;
-    const robot = this.page.view.robotAt(...this.place(event));
+    const near = event.pointerType === 'mouse' ? NEAR_POINTER : NEAR_FINGER;
+    const robot = this.page.view.robotAt(...this.place(event), near);
     this.page.pick(robot === this.page.view.picked ? null : robot);
   }
 }

@@ -2,8 +2,7 @@
 use Rattle.std.proofs.Common.{◌≡◌, ℕ, ◌<◌, List, [], ◌++◌, length, map, sym, ap, ◌∙◌, subst, arith}
 use Rattle.std.specs.Prelude.{slice_index_or}
 use Rattle.std.proofs.lemmas.List.{append_assoc, length-map, length-replicate, get_or-replicate, get_or-map}
-use Rattle.fleet_grid.specs.Floor.{Floor, IsNeighbour}
-use Rattle.fleet_grid.specs.Walk.{IsBridgeless}
+use Rattle.fleet_grid.specs.Floor.{Floor}
 use Rattle.fleet_book.specs.declared.event.Event.{Event}
 use Rattle.fleet_book.specs.declared.limits.Limits.{Limits}
 use Rattle.fleet_book.specs.declared.notice.Notice.{Notice}
@@ -14,7 +13,7 @@ use Rattle.fleet_history.specs.Laws.{orders}
 use Rattle.fleet_history.specs.Rings.{KeepsRing}
 use Rattle.fleet_history.proofs.Rings.{ring-legal}
 use Rattle.fleet_history.proofs.Ticks.{each_tick-start}
-use Rattle.fleet_planner.specs.Planned.{IsPlanned, IsAdvancingTick}
+use Rattle.fleet_planner.specs.Planned.{IsPlanned}
 use Rattle.fleet_world.specs.declared.reply.Reply.{Reply}
 use Rattle.fleet_core.specs.Core.{World, opening_of, opened_world}
 use Rattle.fleet_core.specs.Hooks.{HookLaws, AreOrderly}
@@ -23,23 +22,28 @@ use Rattle.fleet_world.specs.Laws.{KeepsRings, KeepsEachRing, CollectsInOrder, I
 use Rattle.fleet_world.specs.Played.{client_lists}
 use Rattle.fleet_world.specs.Run.{State, Lists, Run, lane, outlet, mailbox, lists, no_lists, state_of, opened_state}
 use Rattle.fleet_world.proofs.FinalLists.{lists-left, KeepsRings-opened}
-use Rattle.fleet_world.proofs.StepLaws.{IsLegalWorld, ArePlanned, AreAdvancing, legal-run, ground-run, planned-run, advancing-run}
+use Rattle.fleet_world.proofs.StepLaws.{IsLegalWorld, ArePlanned, legal-run, ground-run, planned-run}
 use Rattle.fleet_bound.specs.Bound.{KeepsBound, WaitsAreBounded}
+use Rattle.fleet_bound.specs.Roomy.{AdvancesIfRoomy, AreRoomy}
 use Rattle.fleet_bound.proofs.BoundLaws.{bounded-legal}
+use Rattle.fleet_bound.proofs.Roomy.{roomy-ticks}
 use Rattle.fleet_core.proofs.WaitBound.{bound-opened}
 use Rattle.fleet_core.proofs.OpeningFacts.{legal-opened}
 use Rattle.fleet_world.proofs.Rings.{KeepsRings-run}
 
--- on a map without bridges the waits are below the bound
+abbrev pub AreAdvancing : {A : Type 0} → World A → Type 0
+AreAdvancing w = AdvancesIfRoomy w.floor w.history
+
+-- if all errands go to roomy cells, the waits are below the bound
 abbrev pub AreBounded : {A : Type 0} → World A → Type 0
-AreBounded w = IsBridgeless (IsNeighbour w.floor) → WaitsAreBounded w.floor w.history
+AreBounded w = AreRoomy w.floor w.history → WaitsAreBounded w.floor w.history
 
 -- they are where they were at the opening, and each tick since is advancing
 bounded-same : {A : Type 0} (o w : World A) → IsSameGround o w → KeepsBound o.floor (start o.history.opening) → IsLegalWorld w → AreAdvancing w → AreBounded w
-bounded-same {A = A} o w same begins legal advancing none =
+bounded-same {A = A} o w same begins legal advancing roomy =
     let opened : KeepsBound w.floor (start w.history.opening)
     = subst (λ f. KeepsBound f (start w.history.opening)) (sym same.floor) (subst (λ (p : Opening A). KeepsBound o.floor (start p)) (sym same.opening) begins) in
-    bounded-legal w.floor w.history legal (advancing none) opened
+    bounded-legal w.floor w.history legal (advancing roomy) opened
 
 -- what holds of the state that a run leads to from this world
 pub record IsEnd {A : Type 0} (o : World A) (s : State A) : Type 0 where
@@ -57,12 +61,13 @@ ends {A = A} m starts n limits laws events replies s can orderly r =
     let opening : Opening A = opening_of starts n limits laws in
     let legal = legal-run o s events replies r (legal-opened m starts n limits laws can orderly) in
     let ground = ground-run o s events replies r in
-    let advancing = advancing-run o s events replies r (λ none. each_tick-start (IsAdvancingTick m) opening) in
+    let planned = planned-run o s events replies r (each_tick-start (IsPlanned m laws.ties) opening) in
+    let advancing : AreAdvancing s.world = roomy-ticks s.world.floor s.world.ties s.world.history legal planned in
     record {
       legal = legal;
       ground = ground;
       rings = KeepsRings-run o s events replies r (KeepsRings-opened m starts n limits laws);
-      planned = planned-run o s events replies r (each_tick-start (IsPlanned m laws.ties) opening);
+      planned = planned;
       advancing = advancing;
       bounded = bounded-same (opened_world m starts n limits laws) s.world ground (bound-opened m starts n limits laws can orderly) legal advancing;
     }

@@ -1,7 +1,5 @@
 -- What a step of the core does to the world, and what holds of the world all along a run.
 use Rattle.std.proofs.Common.{◌≡◌, ℕ, ◌<◌, List, [], ◌∷◌, Option, sym, refl, ap, subst}
-use Rattle.fleet_grid.specs.Floor.{IsNeighbour}
-use Rattle.fleet_grid.specs.Walk.{IsBridgeless}
 use Rattle.fleet_book.specs.declared.event.Event.{Event}
 use Rattle.fleet_book.specs.declared.event.Event.TheVariants.{Post, Take, Tick, Give, Collect, Shut}
 use Rattle.fleet_book.specs.declared.order.Order.{Order}
@@ -11,7 +9,7 @@ use Rattle.fleet_history.specs.History.{clients}
 use Rattle.fleet_history.specs.Legal.{IsLegal, grown}
 use Rattle.fleet_history.specs.Laws.{EachTick}
 use Rattle.fleet_history.proofs.Ticks.{each_tick-tick, each_tick-take, each_tick-shut}
-use Rattle.fleet_planner.specs.Planned.{IsPlanned, IsAdvancingTick}
+use Rattle.fleet_planner.specs.Planned.{IsPlanned}
 use Rattle.fleet_core.specs.declared.faults.TakeFault.TheVariants as take_fault
 use Rattle.fleet_core.specs.declared.faults.TickFault.TheVariants as tick_fault
 use Rattle.fleet_core.specs.declared.faults.ShutFault.TheVariants as shut_fault
@@ -113,19 +111,3 @@ module _ {A : Type 0} where
 
   pub planned-run : (s t : State A) (events : List Event) (replies : List Reply) → Run s events replies t → ArePlanned s.world → ArePlanned t.world
   planned-run s t events replies r k = run-moves ArePlanned planned-move s t events replies r k
-
-  abbrev pub AreAdvancing : World A → Type 0
-  AreAdvancing w = IsBridgeless (IsNeighbour w.floor) → EachTick (IsAdvancingTick w.floor) w.history
-
-  advancing-move : (w v : World A) → IsMove w v → AreAdvancing w → AreAdvancing v
-  advancing-move w v (rests e) k = subst AreAdvancing (sym e) k
-  advancing-move w v (gives c e) k = subst AreAdvancing (sym e) k
-  advancing-move w v (takes c order verdict inside t) k =
-      subst AreAdvancing (sym t.world) (λ none. each_tick-take (IsAdvancingTick w.floor) w.history c order verdict (k none))
-  advancing-move w v (ticks report t) k =
-      subst AreAdvancing (sym t.world) (λ none. each_tick-tick (IsAdvancingTick w.floor) w.history t.to t.arrived t.farewells (k none) (t.advancing none))
-  advancing-move w v (shuts r farewell t) k =
-      subst AreAdvancing (sym t.world) (λ none. each_tick-shut (IsAdvancingTick w.floor) w.history r farewell (k none))
-
-  pub advancing-run : (s t : State A) (events : List Event) (replies : List Reply) → Run s events replies t → AreAdvancing s.world → AreAdvancing t.world
-  advancing-run s t events replies r k = run-moves AreAdvancing advancing-move s t events replies r k

@@ -2,12 +2,11 @@
 
 ghost use Rattle.std.specs.Prelude.{◌≡◌, ◌<◌, ◌^◌, ◌↔◌, ℕ, [], Err, IfOk, IfErr, OnOk, length, map, replicate, vec_len};
 ghost use Rattle.fleet_bound.specs.Bound.{WaitsAreBounded};
-ghost use Rattle.fleet_grid.specs.Floor.{IsNeighbour};
-ghost use Rattle.fleet_grid.specs.Walk.{IsBridgeless};
 ghost use Rattle.fleet_history.specs.Legal.{IsLegal};
 ghost use Rattle.fleet_history.specs.Numbering.{AreNumbered};
 ghost use Rattle.fleet_history.specs.Laws.{ArrivesInOrder, ArrivalsRise, HasNoConflict, AcceptsNoneClosed, EachTick};
-ghost use Rattle.fleet_planner.specs.Planned.{IsPlanned, IsAdvancingTick};
+ghost use Rattle.fleet_planner.specs.Planned.{IsPlanned};
+ghost use Rattle.fleet_bound.specs.Roomy.{AdvancesIfRoomy, AreRoomy};
 ghost use Rattle.fleet_core.specs.Hooks.{laws_of, AreOrderly};
 ghost use Rattle.fleet_core.specs.Opening.{CanOpen};
 ghost use Rattle.fleet_core.specs.OpeningFaults.{IsRefused, IsNamed};
@@ -77,8 +76,8 @@ pub fn run<A: Allocator + Copy, R: Alloc<A = A>>(
     ensures conflicts { IfOk result (λ p. HasNoConflict p.world.core.floor p.world.core.history) }
     ensures closes { IfOk result (λ p. AcceptsNoneClosed p.world.core.history) }
     ensures planned { IfOk result (λ p. EachTick (IsPlanned p.world.core.floor p.world.core.ties) p.world.core.history) }
-    ensures advancing { IfOk result (λ p. IsBridgeless (IsNeighbour p.world.core.floor) → EachTick (IsAdvancingTick p.world.core.floor) p.world.core.history) }
-    ensures bounded { IfOk result (λ p. IsBridgeless (IsNeighbour p.world.core.floor) → WaitsAreBounded p.world.core.floor p.world.core.history) }
+    ensures advancing { IfOk result (λ p. AdvancesIfRoomy p.world.core.floor p.world.core.history) }
+    ensures bounded { IfOk result (λ p. AreRoomy p.world.core.floor p.world.core.history → WaitsAreBounded p.world.core.floor p.world.core.history) }
 {
     let opened = opened(rt.alloc(), grid, starts, clients, limits, hooks)?;
     let (mut session, (leftovers, mut collected)) = opened;

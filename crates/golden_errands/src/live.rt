@@ -54,10 +54,13 @@ fn words(alloc: Global, case: Conversation<'_>) -> Result<Live, AllocError> {
         tickers,
         traces: None,
         resume: false,
+        resume_only: false,
         keep_every: None,
+        chapter_bytes: None,
         metrics: None,
         pipes: Vec::new(alloc),
         watch: case.has(b"+ watch"),
+        service: false,
     })
 }
 

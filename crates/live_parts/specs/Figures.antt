@@ -6,6 +6,7 @@ use Rattle.fleet_book.specs.declared.verdict.Verdict.{Verdict}
 use Rattle.fleet_book.specs.declared.verdict.Verdict.TheVariants.{Accepted, Closed, Withdrawn, ClientClosed, NoRobot, RobotShut, NoCell, Blocked, Unreachable, QueueFull, LifeSpent, NoErrand, TooLate}
 use Rattle.live_parts.specs.declared.figures.Figures.{Figures}
 use Rattle.live_parts.specs.declared.notices.Notices.{Notices}
+use Rattle.live_parts.specs.Histogram.{histogram_text, seconds_text}
 use Rattle.live_parts.specs.Notices.{open_count, told_count}
 
 -- a figure, after what it is
@@ -54,8 +55,32 @@ abbrev pub limit_text : Option ℕ → List ℕ
 limit_text None = []
 limit_text (Some most) = gauge (codes "fleet_wait_limit_ticks") (codes "A number that no wait reaches.") most
 
-abbrev pub latest_text : Figures → List ℕ
-latest_text f = gauge (codes "fleet_turn_latest_microseconds") (codes "How long after its deadline a turn began at most.") f.tally.latest
+-- a time that rises and falls, in seconds
+abbrev pub time_text : List ℕ → List ℕ → ℕ → List ℕ
+time_text name help micros =
+    codes "# HELP " ++ (name ++ (codes " " ++ (help ++ (codes "\n# TYPE " ++ (name ++ (codes " gauge\n" ++ (name ++ (codes " " ++ (seconds_text micros ++ codes "\n")))))))))
+
+abbrev pub version_text : List ℕ → List ℕ
+version_text version =
+    codes "# HELP fleet_build_info The program.\n# TYPE fleet_build_info gauge\nfleet_build_info{version=\"" ++ (version ++ codes "\"} 1\n")
+
+-- the time between two turns, where they come by themselves
+abbrev pub period_text : Option ℕ → List ℕ
+period_text None = []
+period_text (Some micros) = time_text (codes "fleet_period_seconds") (codes "The time between two deadlines.") micros
+
+abbrev pub turns_text : Figures → List ℕ
+turns_text f =
+    counter (codes "fleet_turns_left_out_total") (codes "Deadlines that went by without a turn.") f.timing.left_out
+    ++ histogram_text (codes "fleet_turn_lateness_seconds") (codes "How long after its deadline a turn began.") f.timing.lateness
+    ++ histogram_text (codes "fleet_turn_duration_seconds") (codes "How long a turn took, with what was told.") f.timing.turns
+    ++ period_text f.period
+
+abbrev pub times_text : Figures → List ℕ
+times_text f =
+    version_text f.version.now
+    ++ time_text (codes "fleet_start_time_seconds") (codes "When the fleet began, since 1970.") f.began_at
+    ++ time_text (codes "fleet_chapter_kept_time_seconds") (codes "When the last chapter was kept, since 1970; 0 if none was.") f.kept_at
 
 abbrev pub queues_text : Figures → List ℕ
 queues_text f =
@@ -74,4 +99,4 @@ memory_text f =
     ++ gauge (codes "fleet_kept_field_bytes") (codes "Bytes of the distance fields that are kept for later.") f.field_bytes
 
 abbrev pub figures_text : Figures → List ℕ
-figures_text f = counters_text f ++ verdicts_text f.notices ++ latest_text f ++ queues_text f ++ waits_text f ++ memory_text f
+figures_text f = counters_text f ++ verdicts_text f.notices ++ turns_text f ++ queues_text f ++ waits_text f ++ memory_text f ++ times_text f

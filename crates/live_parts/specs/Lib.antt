@@ -2,6 +2,7 @@ pub mod Counts
 pub mod Demand
 pub mod Due
 pub mod Figures
+pub mod Histogram
 pub mod Kept
 pub mod Notices
 pub mod Onward
@@ -9,3 +10,4 @@ pub mod Outbox
 pub mod Period
 pub mod Posted
 pub mod Said
+pub mod Size

@@ -11,8 +11,14 @@ pub struct LiveSettings {
     /// The microseconds after which a chapter is handed out at the latest; `None` if that is done only where one is
     /// full or a line asks for it.
     pub keep_every: Option<u32>,
+    /// The bytes that a chapter's text has at most, but for one turn's entries.
+    pub chapter_bytes: u64,
     /// Whether the first conversation watches from the start.
     pub watch: bool,
+    /// Whether the fleet goes on where the first conversation has no more lines.
+    pub service: bool,
+    /// The version of the program.
+    pub version: &'static str,
 }
 
 /// The pipes of a client that has its own.

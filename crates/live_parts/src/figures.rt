@@ -1,38 +1,25 @@
 //! The figures of a fleet, in the text form that Prometheus reads.
 
 ghost use Rattle.std.specs.Prelude.{◌≡◌, ◌++◌, IfOk, OnOk, string_bytes};
-ghost use Rattle.std.specs.List.{flat_map};
-ghost use Rattle.live_parts.specs.Figures.{counter, counters_text, figure_text, figures_text, gauge, kind_line, latest_text, limit_text, memory_text, queues_text, verdict_line, verdicts_text, waits_text};
+ghost use Rattle.live_parts.specs.Figures.{counter, counters_text, figure_text, figures_text, gauge, limit_text, memory_text, period_text, queues_text, time_text, times_text, turns_text, version_text, waits_text};
 
+use crate::histogram::seconds_text;
 use crate::notices::Notices;
 use crate::tally::Tally;
-use fleet_book::Verdict;
+use crate::timing::Timing;
+use crate::verdicts::add_verdicts;
 use fleet_core::QueueReport;
 use fleet_office::WaitReport;
 use std::alloc::{AllocError, Global};
 use std::fmt::Write;
 
-/// One verdict of each kind.
-const VERDICTS: [Verdict; 13] = [
-    Verdict::Accepted(0),
-    Verdict::Closed,
-    Verdict::Withdrawn,
-    Verdict::ClientClosed,
-    Verdict::NoRobot,
-    Verdict::RobotShut,
-    Verdict::NoCell,
-    Verdict::Blocked,
-    Verdict::Unreachable,
-    Verdict::QueueFull,
-    Verdict::LifeSpent,
-    Verdict::NoErrand,
-    Verdict::TooLate,
-];
-
 /// What a fleet did since its start, and how it stands.
 #[derive(Clone, Copy)]
 pub struct Figures {
     pub tally: Tally,
+    pub timing: Timing,
+    /// The microseconds between two turns, where they come by themselves.
+    pub period: Option<u32>,
     /// The notices that clients were told.
     pub notices: Notices,
     pub waits: WaitReport,
@@ -45,6 +32,12 @@ pub struct Figures {
     pub waiting: u64,
     /// How many bytes the distance fields take that no robot needs and that are kept for later.
     pub field_bytes: u64,
+    /// When the fleet began, in microseconds since 1970.
+    pub began_at: u64,
+    /// When the last chapter was kept: the same, and 0 if none was.
+    pub kept_at: u64,
+    /// The version of the program.
+    pub version: &'static str,
 }
 
 /// Adds a figure, with what it is.
@@ -93,39 +86,49 @@ fn add_limit(text: &mut String, limit: Option<u64>) -> Result<(), AllocError>
     }
 }
 
-/// Adds how many verdicts of a kind were told.
-fn add_verdict(text: &mut String, name: &str, count: u64) -> Result<(), AllocError>
-    ensures { OnOk result (string_bytes text.new ≡ string_bytes text.old ++ verdict_line name.now count) }
+/// Adds a time that rises and falls, in seconds.
+fn add_time(
+    alloc: Global,
+    text: &mut String,
+    name: &str,
+    help: &str,
+    micros: u64,
+) -> Result<(), AllocError>
+    ensures { OnOk result (string_bytes text.new ≡ string_bytes text.old ++ time_text name.now help.now micros) }
 {
-    write!(text, "fleet_verdicts_total{{verdict=\"{name}\"}} {count}\n")?;
-    Ok(())
-}
-
-/// Adds how many verdicts of this one's kind were told.
-fn add_kind(text: &mut String, notices: &Notices, verdict: Verdict) -> Result<(), AllocError>
-    ensures { OnOk result (string_bytes text.new ≡ string_bytes text.old ++ kind_line notices.now verdict) }
-{
-    add_verdict(text, verdict.name(), notices.count_of(verdict))
-}
-
-/// Adds how many verdicts of the kinds of these were told.
-fn add_kinds(text: &mut String, notices: &Notices, verdicts: &[Verdict]) -> Result<(), AllocError>
-    ensures { OnOk result (string_bytes text.new ≡ string_bytes text.old ++ flat_map (kind_line notices.now) verdicts.now) }
-{
-    for verdict in verdicts {
-        add_kind(text, notices, *verdict)?;
-    }
-    Ok(())
-}
-
-/// Adds how many verdicts of each kind were told.
-fn add_verdicts(text: &mut String, notices: &Notices) -> Result<(), AllocError>
-    ensures { OnOk result (string_bytes text.new ≡ string_bytes text.old ++ verdicts_text notices.now) }
-{
-    text.push_str(
-        "# HELP fleet_verdicts_total Verdicts told.\n# TYPE fleet_verdicts_total counter\n",
+    let seconds = seconds_text(alloc, micros)?;
+    write!(
+        text,
+        "# HELP {name} {help}\n# TYPE {name} gauge\n{name} {seconds}\n"
     )?;
-    add_kinds(text, notices, &VERDICTS)
+    Ok(())
+}
+
+/// Adds the version of the program.
+fn add_version(text: &mut String, version: &str) -> Result<(), AllocError>
+    ensures { OnOk result (string_bytes text.new ≡ string_bytes text.old ++ version_text version.now) }
+{
+    write!(
+        text,
+        "# HELP fleet_build_info The program.\n# TYPE fleet_build_info gauge\nfleet_build_info{{version=\"{version}\"}} 1\n"
+    )?;
+    Ok(())
+}
+
+/// Adds the time between two turns, if they come by themselves.
+fn add_period(alloc: Global, text: &mut String, period: Option<u32>) -> Result<(), AllocError>
+    ensures { OnOk result (string_bytes text.new ≡ string_bytes text.old ++ period_text period) }
+{
+    match period {
+        Some(micros) => add_time(
+            alloc,
+            text,
+            "fleet_period_seconds",
+            "The time between two deadlines.",
+            u64::from(micros),
+        ),
+        None => Ok(()),
+    }
 }
 
 impl Figures {
@@ -152,15 +155,50 @@ impl Figures {
         )
     }
 
-    /// Adds how late a turn began at most.
-    fn add_latest(&self, text: &mut String) -> Result<(), AllocError>
-        ensures { OnOk result (string_bytes text.new ≡ string_bytes text.old ++ latest_text self.now) }
+    /// Adds when turns were made.
+    fn add_turns(&self, alloc: Global, text: &mut String) -> Result<(), AllocError>
+        ensures { OnOk result (string_bytes text.new ≡ string_bytes text.old ++ turns_text self.now) }
     {
-        add_gauge(
+        let timing = &self.timing;
+        add_counter(
             text,
-            "fleet_turn_latest_microseconds",
-            "How long after its deadline a turn began at most.",
-            self.tally.latest,
+            "fleet_turns_left_out_total",
+            "Deadlines that went by without a turn.",
+            timing.left_out,
+        )?;
+        timing.lateness.add_to(
+            alloc,
+            text,
+            "fleet_turn_lateness_seconds",
+            "How long after its deadline a turn began.",
+        )?;
+        timing.turns.add_to(
+            alloc,
+            text,
+            "fleet_turn_duration_seconds",
+            "How long a turn took, with what was told.",
+        )?;
+        add_period(alloc, text, self.period)
+    }
+
+    /// Adds the version of the program, when the fleet began, and when its last chapter was kept.
+    fn add_times(&self, alloc: Global, text: &mut String) -> Result<(), AllocError>
+        ensures { OnOk result (string_bytes text.new ≡ string_bytes text.old ++ times_text self.now) }
+    {
+        add_version(text, self.version)?;
+        add_time(
+            alloc,
+            text,
+            "fleet_start_time_seconds",
+            "When the fleet began, since 1970.",
+            self.began_at,
+        )?;
+        add_time(
+            alloc,
+            text,
+            "fleet_chapter_kept_time_seconds",
+            "When the last chapter was kept, since 1970; 0 if none was.",
+            self.kept_at,
         )
     }
 
@@ -226,10 +264,11 @@ impl Figures {
         let mut text = String::new(alloc);
         self.add_counters(&mut text)?;
         add_verdicts(&mut text, &self.notices)?;
-        self.add_latest(&mut text)?;
+        self.add_turns(alloc, &mut text)?;
         self.add_queues(&mut text)?;
         self.add_waits(&mut text)?;
         self.add_memory(&mut text)?;
+        self.add_times(alloc, &mut text)?;
         Ok(text)
     }
 }

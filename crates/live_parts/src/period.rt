@@ -66,7 +66,7 @@ pub fn next_due(due: u64, period: u64, now: u64) -> u64
     ensures later { now < result }
     ensures soon { result ≤ due + (now - due) + period }
     ensures grid { (result - due) % period ≡ 0 }
-    ensures next { due < result }
+    ensures next { due + period ≤ result }
 {
     let missed = now.saturating_sub(due);
     due + (missed - missed % period) + period

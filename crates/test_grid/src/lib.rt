@@ -17,6 +17,8 @@ mod grids;
 #[cfg(test)]
 mod plans;
 #[cfg(test)]
+mod roomy;
+#[cfg(test)]
 mod squares;
 #[cfg(test)]
 mod steps;

@@ -22,6 +22,8 @@ mod planted;
 #[cfg(test)]
 mod reopened;
 #[cfg(test)]
+mod schedules;
+#[cfg(test)]
 mod texts;
 #[cfg(test)]
 mod trace_explanations;

@@ -2,6 +2,13 @@
 
 const LEAST_NUMBERED = 9;
 const PATH_FRAMES = 30;
+// the radius of a robot in cells: small cells are filled
+const RADIUS = 0.38;
+const RADIUS_IN_SMALL_CELLS = 0.47;
+const SMALL_CELL = 20;
+// robots on one cell stand in a circle, and are drawn smaller
+const CROWDED = 0.24;
+const CROWDED_SIZE = 0.6;
 
 class MapView extends MapGround {
   constructor(canvas, replay) {
@@ -14,12 +21,14 @@ class MapView extends MapGround {
     this.other = new Int32Array(replay.robots);
     this.xs = new Float64Array(replay.robots);
     this.ys = new Float64Array(replay.robots);
+    this.crowded = new Uint8Array(replay.robots);
+    this.standing = new Uint16Array(replay.map.width * replay.map.height);
   }
 
-  // The robot that is drawn nearest to a point of the canvas, if one is near.
-  robotAt(x, y) {
+  // The robot that is drawn nearest to a point of the canvas, if one is within that many pixels, or on the point's cell.
+  robotAt(x, y, near) {
     let best = null;
-    let least = Math.max(this.view.scale * 0.55, 10 * this.ratio);
+    let least = Math.max(this.view.scale * 0.55, near * this.ratio);
     for (let robot = 0; robot < this.replay.robots; robot += 1) {
       const far = Math.hypot(this.xs[robot] - x, this.ys[robot] - y);
       if (far < least) [best, least] = [robot, far];
@@ -48,6 +57,35 @@ class MapView extends MapGround {
       this.xs[robot] = x + (nextX - x) * part;
       this.ys[robot] = y + (nextY - y) * part;
     }
+    this.partCrowds(part < 0.5 ? cells : other);
+  }
+
+  // Only an illegal trace has two robots on one cell: they are drawn next to each other, so that each is to be seen.
+  partCrowds(cells) {
+    const { crowded, standing } = this;
+    const crowds = new Map();
+    for (const cell of cells) standing[cell] += 1;
+    cells.forEach((cell, robot) => {
+      crowded[robot] = standing[cell] > 1 ? 1 : 0;
+      if (crowded[robot] === 1) crowds.set(cell, [...(crowds.get(cell) ?? []), robot]);
+    });
+    for (const cell of cells) standing[cell] = 0;
+    for (const robots of crowds.values()) this.standInCircle(robots);
+  }
+
+  standInCircle(robots) {
+    const far = CROWDED * this.view.scale;
+    robots.forEach((robot, place) => {
+      const angle = 2 * Math.PI * place / robots.length;
+      this.xs[robot] -= far * Math.cos(angle);
+      this.ys[robot] -= far * Math.sin(angle);
+    });
+  }
+
+  radiusOf(robot) {
+    const { view, ratio, crowded } = this;
+    const part = view.scale < SMALL_CELL * ratio ? RADIUS_IN_SMALL_CELLS : RADIUS;
+    return Math.max(view.scale * part, 2.4 * ratio) * (crowded[robot] === 1 ? CROWDED_SIZE : 1);
   }
 
   centreBetween(cell, other, part) {
@@ -118,11 +156,11 @@ class MapView extends MapGround {
   drawRobots(fraction) {
     const { pen, view, replay, colours } = this;
     const { frame, queues, shut } = replay.state;
-    const radius = Math.max(view.scale * 0.36, 2.4 * this.ratio);
     const numbered = view.scale >= LEAST_NUMBERED * this.ratio;
     const outlined = this.shows.heat || view.scale >= LEAST_NUMBERED * this.ratio;
     for (let robot = 0; robot < replay.robots; robot += 1) {
       const [x, y] = [this.xs[robot], this.ys[robot]];
+      const radius = this.radiusOf(robot);
       const idle = queues[robot].length === 0;
       pen.globalAlpha = this.strengthOf(robot);
       pen.fillStyle = idle ? colours.idle : this.colours.robots[robot].fill;
@@ -139,17 +177,17 @@ class MapView extends MapGround {
       if (numbered) this.drawNumber(robot, x, y, idle);
     }
     pen.globalAlpha = 1;
-    this.drawRings(radius, fraction, frame);
+    this.drawRings(fraction, frame);
   }
 
   // Round the eldest, the picked one, and those that arrive.
-  drawRings(radius, fraction, frame) {
+  drawRings(fraction, frame) {
     const { pen, view, replay, colours } = this;
     pen.lineWidth = Math.max(1.5 * this.ratio, Math.min(view.scale / 12, 5 * this.ratio));
     const ring = (robot, colour, factor) => {
       pen.strokeStyle = colour;
       pen.beginPath();
-      pen.arc(this.xs[robot], this.ys[robot], radius * factor, 0, 2 * Math.PI);
+      pen.arc(this.xs[robot], this.ys[robot], this.radiusOf(robot) * factor, 0, 2 * Math.PI);
       pen.stroke();
     };
     if (replay.eldest[frame] >= 0) ring(replay.eldest[frame], colours.ink, 1.2);
@@ -169,7 +207,9 @@ class MapView extends MapGround {
 
   drawNumber(robot, x, y, idle) {
     const { pen, view, colours } = this;
-    const size = Math.max(view.scale * (robot > 99 ? 0.32 : 0.42), 5.5 * this.ratio);
+    const small = view.scale < SMALL_CELL * this.ratio || this.crowded[robot] === 1;
+    const part = (robot > 99 ? 0.34 : 0.46) + (small ? 0.08 : 0);
+    const size = Math.max(view.scale * part, 5.5 * this.ratio) * (this.crowded[robot] === 1 ? CROWDED_SIZE : 1);
     pen.fillStyle = idle ? colours.digitsOnIdle : colours.robots[robot].digits;
     pen.font = `600 ${size.toFixed(1)}px system-ui, sans-serif`;
     pen.textAlign = 'center';

@@ -97,6 +97,17 @@ class RobotTable {
     });
   }
 
+  // Scrolls the table's own box, and nothing else, until the robot's row is in it.
+  reveal(robot) {
+    const { row } = this.rows[robot];
+    const table = row.closest('table');
+    const box = table.parentElement;
+    const top = row.offsetTop - table.tHead.offsetHeight;
+    const bottom = row.offsetTop + row.offsetHeight;
+    if (top < box.scrollTop) box.scrollTop = top;
+    else if (bottom > box.scrollTop + box.clientHeight) box.scrollTop = bottom - box.clientHeight;
+  }
+
   // Only what changed is written.
   draw(colours, picked) {
     const { replay } = this;

@@ -4,6 +4,9 @@ const PAN = 0.2;
 const ZOOM = 1.5;
 // how far a pointer may move, in pixels, and still be a click
 const CLICK = 6;
+// how near to a robot, in pixels, a click or a tap picks it
+const NEAR_POINTER = 10;
+const NEAR_FINGER = 16;
 
 function keysOf(page) {
   const toggle = (name) => () => page.show(name, !page.view.shows[name]);
@@ -48,7 +51,9 @@ function keysOf(page) {
 function listenToKeys(page) {
   const keys = keysOf(page);
   window.addEventListener('keydown', (event) => {
-    if (event.ctrlKey || event.metaKey || event.altKey || element('help').open) return;
+    // on many keyboards [ and ] are typed with AltGr or Option
+    const typed = event.key === '[' || event.key === ']';
+    if (event.metaKey || ((event.ctrlKey || event.altKey) && !typed) || element('help').open) return;
     const key = keys[event.key] ?? keys[event.key.toLowerCase()];
     if (key === undefined) return;
     // a button or a box that has the focus keeps the space bar
@@ -188,7 +193,8 @@ class MapPointers {
     if (this.held.size > 0) return;
     this.canvas.classList.remove('held');
     if (!ended || place === undefined || this.moved) return;
-    const robot = this.page.view.robotAt(...this.place(event));
+    const near = event.pointerType === 'mouse' ? NEAR_POINTER : NEAR_FINGER;
+    const robot = this.page.view.robotAt(...this.place(event), near);
     this.page.pick(robot === this.page.view.picked ? null : robot);
   }
 }

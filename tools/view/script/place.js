@@ -3,6 +3,9 @@
 // the greatest width of a cell in pixels, and how far even a small map may be zoomed
 const MOST_CELL = 120;
 const LEAST_MOST_ZOOM = 4;
+// the least height of the map, and the margins below it, in pixels
+const LEAST_HIGH = 240;
+const BELOW = 48;
 
 class MapPlace {
   constructor(canvas, map) {
@@ -13,11 +16,15 @@ class MapPlace {
     this.middle = { x: map.width / 2, y: map.height / 2 };
   }
 
-  // Zoom and middle stay.
+  // The map is as high as it can be with its slider in the window; in one column it leaves room for what is told below it. Zoom
+  // and middle stay.
   resize() {
     const { height, width } = this.map;
     const room = this.canvas.clientWidth;
-    const high = Math.max(160, Math.min(room * height / width, window.innerHeight * 0.78));
+    const above = this.canvas.getBoundingClientRect().top + window.scrollY;
+    const isOneColumn = matchMedia('(max-width: 900px)').matches;
+    const below = isOneColumn ? window.innerHeight * 0.25 : element('time').offsetHeight + BELOW;
+    const high = Math.max(LEAST_HIGH, Math.min(room * height / width, window.innerHeight - above - below));
     this.ratio = window.devicePixelRatio || 1;
     this.canvas.style.height = `${high}px`;
     this.canvas.width = Math.round(room * this.ratio);

@@ -106,8 +106,7 @@ class Page {
     this.setShown('heat', true);
   }
 
-  // The texts of a frame. While the replay plays, the table and the entries are written a few times a second, and the
-  // list of all events when it stands.
+  // The texts of a frame. While the replay plays, the table and the lists are written a few times a second.
   drawTexts() {
     const { replay } = this;
     const { frame } = replay.state;
@@ -128,7 +127,7 @@ class Page {
       this.listed = now;
       this.table.draw(this.colours, this.view.picked);
       showEntries(element('entries'), replay);
-      if (!this.player.playing) this.events.draw();
+      this.events.draw();
       element('picked').textContent = this.view.picked === null ? '' : robotText(replay, this.view.picked);
     }
     this.publish();
@@ -245,7 +244,7 @@ class Page {
     const known = this.setPicked(robot);
     this.draw();
     if (known) {
-      this.table.rows[robot].row.scrollIntoView({ block: 'nearest' });
+      this.table.reveal(robot);
       this.say(robotText(this.replay, robot));
     }
   }

@@ -154,6 +154,13 @@ class Programs:
             fleet.tick()
             self.assertEqual((fleet.farewells, fleet.arrivals), ([], []))
 
+    def test_one_client_sends_an_errand_to_each_of_300_robots(self):
+        (self.path / "open").write_text("type octile\nheight 20\nwidth 20\nmap\n" + ("." * 20 + "\n") * 20)
+        with self.fleet("open", list(range(300))) as fleet:
+            errands = [fleet.go(robot, 399 - robot) for robot in range(300)]
+            self.assertEqual([errand.accepted() for errand in errands], list(range(1, 301)))
+            self.assertEqual({standing.state for standing in fleet.standings()}, {"busy"})
+
     def test_mailboxes_and_lanes(self):
         with self.fleet("row", [0], mailbox=2, lane=2) as fleet:
             first, second, third = (fleet.go(0, cell) for cell in (2, 0, 1))

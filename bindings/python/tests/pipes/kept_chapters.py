@@ -25,6 +25,9 @@ def model(word):
     return module
 
 
+START = re.compile(r"(fleet: begins anew\n|fleet: goes on from chapter \d+ at tick \d+\n)?((?s:.*))")
+
+
 class KeptChaptersTest(unittest.TestCase):
     """A map, and a folder of chapters."""
 
@@ -38,9 +41,12 @@ class KeptChaptersTest(unittest.TestCase):
         self.map.write_text(RING)
 
     def run_program(self, words, lines):
-        """What the program says to lines: output, complaint, status."""
+        """What the program says to lines: output, complaint, status. The line that says how a fleet starts is kept in
+        `start`.
+        """
         said = subprocess.run([PROGRAM, *words], input=lines.encode(), capture_output=True)
-        return said.stdout.decode(), said.stderr.decode(), said.returncode
+        self.start, complaint = START.fullmatch(said.stderr.decode()).groups()
+        return said.stdout.decode(), complaint, said.returncode
 
     def head(self, script):
         """The words for the file of header lines, if there is one."""
@@ -56,6 +62,7 @@ class KeptChaptersTest(unittest.TestCase):
         """The fleet does not go on, says why, and leaves the folder as it is."""
         before = {name: (self.traces / name).read_bytes() for name in self.chapters()}
         output, complaint, ended = self.on("look\n", *words, **heads)
+        self.assertIsNone(self.start)
         # (where the reader of JSON stopped is by its own account)
         complaint = re.sub(r": its reader stopped at line [1-9]\d*, column [1-9]\d*\n", "\n", complaint)
         self.assertEqual((output, complaint, ended), ("", f"fleet: file {told}\n", status))

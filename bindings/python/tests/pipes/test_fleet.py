@@ -109,7 +109,7 @@ class FleetTest(unittest.TestCase):
                 fleet.tick(9)
                 self.assertEqual(fleet.chapter().number, 2)
                 self.assertEqual(errands[1].arrived().tick, 4)
-            self.assertEqual(sorted(os.listdir(traces)), [f"chapter-{n}.json" for n in range(4)])
+            self.assertEqual(sorted(os.listdir(traces)), [*(f"chapter-{n}.json" for n in range(4)), "fleet.lock"])
             texts = []
             for n in range(4):
                 with open(os.path.join(traces, f"chapter-{n}.json")) as file:
@@ -197,7 +197,7 @@ class LinesTest(unittest.TestCase):
             process.stdout.close()
             process.stdin.write(b"robots 0\ntick\n")
             process.stdin.close()
-            self.assertEqual(process.stderr.read(), b"fleet: file\n")
+            self.assertEqual(process.stderr.read(), b"fleet: file standard output cannot be written: Broken pipe (os error 32)\n")
             process.stderr.close()
             self.assertEqual(process.wait(60), 3)
 

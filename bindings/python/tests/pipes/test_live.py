@@ -2,6 +2,7 @@
 
 import json
 import os
+import shutil
 import signal
 import subprocess
 import tempfile
@@ -184,7 +185,7 @@ class LiveTest(unittest.TestCase):
 
     def chapters_in(self, folder):
         """The numbers of entries of the chapters, which are all that the folder has."""
-        names = sorted(os.listdir(folder), key=lambda name: int(name[8:-5]))
+        names = sorted((name for name in os.listdir(folder) if name != "fleet.lock"), key=lambda name: int(name[8:-5]))
         counts = []
         for number, name in enumerate(names):
             self.assertEqual(name, f"chapter-{number}.json")
@@ -211,7 +212,7 @@ class LiveTest(unittest.TestCase):
         self.assertEqual((talk.returncode, talk.stdout, talk.stderr.decode()), (3, b"", told))
         self.assertEqual(self.chapters_in(folder), [0])
         missing = os.path.join(self.folder.name, "missing")
-        told = (3, "", f"fleet: file {missing} cannot be written\n")
+        told = (3, "", f"fleet: file {missing} cannot be written: No such file or directory (os error 2)\n")
         self.assertEqual(self.run_lines("tick\n", "--robots", "0,8", "--traces", missing), told)
 
     def test_a_chapter_that_waits(self):
@@ -220,7 +221,7 @@ class LiveTest(unittest.TestCase):
         os.mkdir(part)
         words = ["--period", "1ms", "--traces", folder, self.map, self.head("robots 0 8\nchapter 200\n")]
         with subprocess.Popen([PROGRAM, "live", *words], stdin=subprocess.PIPE, stdout=subprocess.PIPE, stderr=subprocess.PIPE) as process:
-            self.assertEqual(process.stderr.readline(), b"fleet: file chapter-1.json\n")
+            self.assertEqual(process.stderr.readline().decode(), f"fleet: file {folder}/chapter-1.json cannot be written: Is a directory (os error 21)\n")
             time.sleep(0.5)
             self.assertEqual(sorted(os.listdir(folder)), ["chapter-0.json", "chapter-1.part", "fleet.lock"])
             os.rmdir(part)
@@ -250,8 +251,9 @@ class LiveTest(unittest.TestCase):
         self.assertEqual(lines[:2], ["posted 0 1", "collected 0 1 verdict 1 accepted 1"])
         self.assertTrue(lines[2].startswith("collected 0 2 arrived 1 "))
         self.assertTrue(lines[-1].startswith("ended "))
-        self.assertEqual(set(complaint.splitlines()), {"fleet: file chapter-1.json", "fleet: file"})
-        self.assertEqual(sorted(os.listdir(folder)), ["chapter-0.json", "chapter-1.part"])
+        why = "cannot be written: Is a directory (os error 21)"
+        self.assertEqual(set(complaint.splitlines()), {f"fleet: file {folder}/chapter-1.json {why}", f"fleet: file {folder} {why}"})
+        self.assertEqual(sorted(os.listdir(folder)), ["chapter-0.json", "chapter-1.part", "fleet.lock"])
 
     def test_the_end_is_seen_while_nobody_reads(self):
         for quits in (True, False):
@@ -279,7 +281,7 @@ class LiveTest(unittest.TestCase):
             self.assertIn("posted 0 1", lines)
             self.assertIn("collected 0 1 verdict 1 accepted 1", lines)
             self.assertEqual(lines[-1], f"ended {len([entry for entry in entries if entry[0] == 'tick'])}")
-            os.remove(last), os.rmdir(folder)
+            shutil.rmtree(folder)
 
     def test_quit_ends_a_tick_that_takes_long(self):
         with subprocess.Popen([PROGRAM, "live", "--robots", "0,8", self.map], stdin=subprocess.PIPE, stdout=subprocess.PIPE) as process:
@@ -315,7 +317,9 @@ class LiveTest(unittest.TestCase):
         for number in (signal.SIGTERM, signal.SIGINT):
             folder = self.traces()
             words = [RUN, PROGRAM, "live", "--robots", "0,8", "--period", "2ms", "--traces", folder, self.map]
-            with subprocess.Popen(words, stdin=subprocess.PIPE, stdout=subprocess.PIPE) as process:
+            # A shell in the background has its programs ignore some signals, and they then cannot be trapped.
+            heeded = lambda: signal.signal(number, signal.SIG_DFL)
+            with subprocess.Popen(words, stdin=subprocess.PIPE, stdout=subprocess.PIPE, preexec_fn=heeded) as process:
                 process.stdin.write(b"post 0 go 0 1\n")
                 process.stdin.flush()
                 lines = [process.stdout.readline().decode() for _ in range(3)]
@@ -326,7 +330,7 @@ class LiveTest(unittest.TestCase):
             self.assertTrue(lines[2].startswith("collected 0 2 arrived 1 "))
             entries = sum(self.chapters_in(folder))
             self.assertEqual(lines[3:], [f"ended {entries - 1}"])
-            os.remove(os.path.join(folder, "chapter-0.json")), os.rmdir(folder)
+            shutil.rmtree(folder)
         done = subprocess.run([RUN, PROGRAM, "live", "--robots", "0,8", self.map], input=b"tick 3\n", capture_output=True)
         self.assertEqual((done.returncode, done.stdout), (0, b"tick 3: 0 8\nended 3\n"))
         done = subprocess.run([RUN, PROGRAM, "live", "--robots", "4", self.map], stdin=subprocess.DEVNULL, capture_output=True)
@@ -353,7 +357,8 @@ class LiveTest(unittest.TestCase):
                 process.stdin.write(b"post 0 go 0 1\npost 0 go 0 4\n" + b"tick 50\n" * (not period))
                 process.stdin.flush()
                 seen, begun = {}, time.monotonic()
-                while seen.get("fleet_arrivals_total") != "1" and time.monotonic() - begun < 10:
+                # They are shown in the middle of what is asked, too.
+                while (seen.get("fleet_arrivals_total") != "1" or not period and seen["fleet_ticks_total"] != "50") and time.monotonic() - begun < 10:
                     time.sleep(0.05)
                     seen = self.figures(name)
                 process.stdin.close()
@@ -365,7 +370,7 @@ class LiveTest(unittest.TestCase):
             # 8 cells and 2 robots: no wait reaches 2 times 7.
             wanted = {"fleet_orders_total": "2", "fleet_errands_open": "0", "fleet_wait_ticks": "0", "fleet_wait_limit_ticks": "14", "fleet_chapters_waiting": "0"}
             if not period:
-                wanted.update({"fleet_ticks_total": "50", "fleet_turns_late_total": "0", "fleet_turn_latest_microseconds": "0", "fleet_chapters_kept_total": "2"})
+                wanted.update({"fleet_ticks_total": "50", "fleet_turns_late_total": "0", "fleet_turns_left_out_total": "0", "fleet_turn_lateness_seconds_count": "0", "fleet_chapters_kept_total": "2"})
             self.assertEqual({name: seen[name] for name in wanted}, wanted)
             self.assertGreater(int(seen["fleet_ticks_total"]), 0)
             self.assertEqual(os.path.exists(name + ".part"), False)
@@ -373,7 +378,7 @@ class LiveTest(unittest.TestCase):
                 os.remove(os.path.join(self.folder.name, "traces", chapter))
             os.rmdir(os.path.join(self.folder.name, "traces"))
         name = os.path.join(self.folder.name, "missing", "figures")
-        self.assertEqual(self.run_lines("look\n", "--robots", "0,8", "--metrics", name), (3, "", f"fleet: file {name} cannot be written\n"))
+        self.assertEqual(self.run_lines("look\n", "--robots", "0,8", "--metrics", name), (3, "", f"fleet: file {name} cannot be written: No such file or directory (os error 2)\n"))
 
     def test_bytes_of_kept_fields(self):
         """A goal that comes back has a whole field, a byte for each of the map's 9 cells, and that is kept once no robot needs it."""

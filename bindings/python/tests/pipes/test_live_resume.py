@@ -67,12 +67,12 @@ class LiveResumeTest(KeptChaptersTest):
     def test_clients_of_the_chapter_may_have_pipes(self):
         self.on("post 1 go 0 1\n", "--clients", "2")
         for way in ("in", "out"):
-            os.mkfifo(self.path / (way + "0"))
-            os.mkfifo(self.path / (way + "1"))
+            for at in "012":
+                os.mkfifo(self.path / (way + at))
         pipes = [word for at in (0, 1) for word in ("--client", f"{self.path}/in{at},{self.path}/out{at}")]
         # Neither words nor a script name the clients.
         self.assertEqual(self.on("tick\n", *pipes)[1:], ("", 0))
-        more = self.on("tick\n", *pipes, "--client", f"{self.path}/in0,{self.path}/in1")
+        more = self.on("tick\n", *pipes, "--client", f"{self.path}/in2,{self.path}/out2")
         self.assertEqual(more, ("", "error: more '--client <IN,OUT>' than clients\n", 2))
 
     def test_heads_and_words(self):

@@ -150,7 +150,7 @@ class ResumeTest(KeptChaptersTest):
         self.assertEqual(self.on("look\n")[2], 0)
         self.assertTrue((self.traces / "chapter-4.json").exists())
         (self.traces / "chapter-5.json").mkdir()
-        self.assertEqual(self.on("look\n"), ("", f"fleet: file {self.traces}/chapter-5.json: it cannot be read\n", 3))
+        self.assertEqual(self.on("look\n"), ("", f"fleet: file {self.traces}/chapter-5.json: it is a pipe, a link or a folder\n", 3))
 
     def test_folder_in_use(self):
         self.on("robots 0 8\nlook\n")

@@ -201,7 +201,7 @@ class FilesTest(unittest.TestCase):
 
     def test_arguments_come_first(self):
         made, program = self.path / "made", self.place("made/bin/fleet")
-        shared = self.place("made/lib/libnashirudder.so.0", "made/lib/libnashirudder.so")
+        shared = self.place("made/lib/libnashirudder.so.0.1", "made/lib/libnashirudder.so")
         with mock.patch.dict(os.environ, {finding.VARIABLE: "/none"}):
             self.assertEqual((finding.program(program), finding.library(shared)), (program, shared))
             self.assertEqual((finding.program(made), finding.library(made)), (program, shared))
@@ -216,7 +216,7 @@ class FilesTest(unittest.TestCase):
             # Those that are left, of which the first is found.
             left = ways[-count:]
             programs = {way: self.place(f"{count}/{way}/bin/fleet") for way in left}
-            libraries = {way: self.place(f"{count}/{way}/lib/libnashirudder.so.0") for way in left}
+            libraries = {way: self.place(f"{count}/{way}/lib/libnashirudder.so.0.1") for way in left}
             for path in programs.values():
                 os.chmod(path, 0o755)
             folder = self.path / str(count)

@@ -23,6 +23,13 @@ pub(crate) const TRACES: Argument<'static> = Argument {
     help: "Write each chapter into this folder, as chapter-N.json",
 };
 
+/// To go on, and never to begin anew.
+pub(crate) const RESUME_ONLY: Argument<'static> = Argument {
+    name: "resume-only",
+    kind: Kind::Flag,
+    help: "Go on as with --resume; end with status 3 if the folder has no chapter",
+};
+
 /// To go on.
 pub(crate) const RESUME: Argument<'static> = Argument {
     name: "resume",

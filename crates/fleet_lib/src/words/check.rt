@@ -2,7 +2,7 @@
 
 ghost use Rattle.std.specs.Prelude.{◌≡◌, IfOk};
 ghost use Rattle.clap.specs.Words.{found_of, rows_of};
-ghost use Rattle.fleet_lib.specs.Asked.{IsCheck, form_in, form_named};
+ghost use Rattle.fleet_lib.specs.Asked.{IsCheck, IsCountAsked, form_in, form_named};
 
 use crate::words::arguments::MAP;
 use clap::ArgMatches;
@@ -29,11 +29,13 @@ pub struct Check {
     pub form: FormAsked,
     /// A scenario with the robots' starts and goals.
     pub goals: Option<String>,
+    /// How many robots the plan has to have.
+    pub agents: Option<u32>,
     pub map: String,
     pub plan: String,
 }
 
-/// `check [--strict] [--form FORM] [--goals SCENARIO] MAP PLAN`.
+/// `check [--strict] [--form FORM] [--goals SCENARIO] [--agents N] MAP PLAN`.
 pub(crate) const CHECK: Word<'static> = Word {
     name: "check",
     about: "Judges a plan of any planner on a map: whether it is free of conflicts, and what it costs",
@@ -53,6 +55,11 @@ pub(crate) const CHECK: Word<'static> = Word {
             name: "goals",
             kind: Kind::Value("SCENARIO"),
             help: "Call a plan valid only if its robots begin and end as this scenario (.scen) says",
+        },
+        Argument {
+            name: "agents",
+            kind: Kind::Number("N"),
+            help: "Call a plan valid only if it has N robots",
         },
         MAP,
         Argument {
@@ -96,17 +103,33 @@ fn form_in(matches: &ArgMatches<'_>) -> FormAsked
     }
 }
 
+/// How many robots the words ask for.
+fn agents_in(matches: &ArgMatches<'_>) -> Result<Option<u32>, AllocError>
+    ensures { IfOk result (IsCountAsked (rows_of (found_of matches.now))) }
+{
+    match matches.get_str("agents") {
+        Some(word) => match word.parse::<u32>() {
+            Ok(count) => Ok(Some(count)),
+            // `clap` took it for a number of this range, so this never runs
+            Err(_) => Err(AllocError),
+        },
+        None => Ok(None),
+    }
+}
+
 /// What the arguments of `check` ask for.
 pub(crate) fn check_in(alloc: Global, matches: &ArgMatches<'_>) -> Result<Check, AllocError>
     ensures { IfOk result (λ check. IsCheck (rows_of (found_of matches.now)) check) }
 {
     let goals = some_word_for(alloc, matches, "goals")?;
+    let agents = agents_in(matches)?;
     let map = word_for(alloc, matches, "MAP")?;
     let plan = word_for(alloc, matches, "PLAN")?;
     Ok(Check {
         strict: has_flag(matches, "strict"),
         form: form_in(matches),
         goals,
+        agents,
         map,
         plan,
     })

@@ -4,7 +4,7 @@ ghost use Rattle.std.specs.Prelude.{◌≡◌, IfOk};
 ghost use Rattle.clap.specs.Words.{found_of, rows_of};
 ghost use Rattle.fleet_lib.specs.Asked.{IsLive};
 
-use crate::words::arguments::{MAP, RESUME, SCRIPT, TRACES};
+use crate::words::arguments::{MAP, RESUME, RESUME_ONLY, SCRIPT, TRACES};
 use clap::ArgMatches;
 use command_words::{Argument, Kind, Word, has_flag, some_word_for, some_words_for, word_for};
 use std::alloc::{AllocError, Global};
@@ -27,8 +27,12 @@ pub struct Live {
     pub traces: Option<String>,
     /// Whether the fleet goes on from the last chapter in the folder.
     pub resume: bool,
+    /// Whether it goes on, or is refused.
+    pub resume_only: bool,
     /// How often a chapter is kept at least.
     pub keep_every: Option<String>,
+    /// The bytes of a chapter's text.
+    pub chapter_bytes: Option<String>,
     /// The file for figures.
     pub metrics: Option<String>,
     /// The pipes of clients 0, 1, ..: the pipe from which their lines come, a comma, and the pipe for what is printed
@@ -36,10 +40,12 @@ pub struct Live {
     pub pipes: Vec<String>,
     /// Whether tick lines are printed from the start.
     pub watch: bool,
+    /// Whether the fleet goes on without a first conversation.
+    pub service: bool,
 }
 
-/// `live [--robots CELLS] [--clients N] [--period TIME] [--tickers N] [--client IN,OUT].. [--watch] [--traces DIR]
-/// [--resume] [--keep-every TIME] [--metrics FILE] MAP [SCRIPT]`.
+/// `live [--robots CELLS] [--clients N] [--period TIME] [--tickers N] [--client IN,OUT].. [--watch] [--service]
+/// [--traces DIR] [--resume] [--resume-only] [--keep-every TIME] [--chapter-bytes N] [--metrics FILE] MAP [SCRIPT]`.
 pub(crate) const LIVE: Word<'static> = Word {
     name: "live",
     about: "Keeps a fleet in real time for clients that post errands and are told what became of them",
@@ -75,12 +81,23 @@ pub(crate) const LIVE: Word<'static> = Word {
             kind: Kind::Flag,
             help: "Say where the robots stand after each tick",
         },
+        Argument {
+            name: "service",
+            kind: Kind::Flag,
+            help: "Go on where standard input ends: only the line `quit` ends the fleet",
+        },
         TRACES,
         RESUME,
+        RESUME_ONLY,
         Argument {
             name: "keep-every",
             kind: Kind::Value("TIME"),
             help: "Write a chapter at least so often, as 10s",
+        },
+        Argument {
+            name: "chapter-bytes",
+            kind: Kind::Value("N"),
+            help: "Begin the next chapter where the text of one reaches this many bytes, 67108864 if not given",
         },
         Argument {
             name: "metrics",
@@ -104,6 +121,7 @@ pub(crate) fn live_in(alloc: Global, matches: &ArgMatches<'_>) -> Result<Live, A
     let tickers = some_word_for(alloc, matches, "tickers")?;
     let traces = some_word_for(alloc, matches, "traces")?;
     let keep_every = some_word_for(alloc, matches, "keep-every")?;
+    let chapter_bytes = some_word_for(alloc, matches, "chapter-bytes")?;
     let metrics = some_word_for(alloc, matches, "metrics")?;
     let pipes = some_words_for(alloc, matches, "client")?;
     Ok(Live {
@@ -115,9 +133,12 @@ pub(crate) fn live_in(alloc: Global, matches: &ArgMatches<'_>) -> Result<Live, A
         tickers,
         traces,
         resume: has_flag(matches, "resume"),
+        resume_only: has_flag(matches, "resume-only"),
         keep_every,
+        chapter_bytes,
         metrics,
         pipes,
         watch: has_flag(matches, "watch"),
+        service: has_flag(matches, "service"),
     })
 }

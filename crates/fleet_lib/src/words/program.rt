@@ -13,11 +13,14 @@ use crate::words::talk::TALK;
 use crate::words::view::VIEW;
 use command_words::Program;
 
+/// Its version.
+pub(crate) const VERSION: &str = "0.1.0";
+
 /// The program.
 pub(crate) const FLEET: Program<'static> = Program {
     name: "fleet",
     about: "Looks at fleets of robots: shows traces of what they did and counts figures of them, judges plans and writes them, answers lines as they come, and keeps fleets in real time",
-    version: "0.1.0",
+    version: VERSION,
     note: None,
     needs_word: true,
     words: &[VIEW, CHECK, TALK, CONVERT, EXPLAIN, LIVE, STATS],

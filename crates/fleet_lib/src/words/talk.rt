@@ -4,7 +4,7 @@ ghost use Rattle.std.specs.Prelude.{◌≡◌, IfOk};
 ghost use Rattle.clap.specs.Words.{found_of, rows_of};
 ghost use Rattle.fleet_lib.specs.Asked.{IsTalk};
 
-use crate::words::arguments::{MAP, RESUME, SCRIPT, TRACES};
+use crate::words::arguments::{MAP, RESUME, RESUME_ONLY, SCRIPT, TRACES};
 use clap::ArgMatches;
 use command_words::{Argument, Kind, Word, has_flag, some_word_for, word_for};
 use std::alloc::{AllocError, Global};
@@ -19,13 +19,15 @@ pub struct Talk {
     pub traces: Option<String>,
     /// Whether the fleet goes on from the last chapter in the folder.
     pub resume: bool,
+    /// Whether it goes on, or is refused.
+    pub resume_only: bool,
     /// Whether the answer to line N ends with a line `. N`.
     pub marks: bool,
     /// Whether full chapters are handed out unasked.
     pub roll: bool,
 }
 
-/// `talk [--marks] [--roll] [--traces DIR] [--resume] MAP [SCRIPT]`.
+/// `talk [--marks] [--roll] [--traces DIR] [--resume] [--resume-only] MAP [SCRIPT]`.
 pub(crate) const TALK: Word<'static> = Word {
     name: "talk",
     about: "Talks to a fleet: answers each line of standard input as soon as it is read",
@@ -43,6 +45,7 @@ pub(crate) const TALK: Word<'static> = Word {
         },
         TRACES,
         RESUME,
+        RESUME_ONLY,
         MAP,
         SCRIPT,
     ],
@@ -60,6 +63,7 @@ pub(crate) fn talk_in(alloc: Global, matches: &ArgMatches<'_>) -> Result<Talk, A
         script,
         traces,
         resume: has_flag(matches, "resume"),
+        resume_only: has_flag(matches, "resume-only"),
         marks: has_flag(matches, "marks"),
         roll: has_flag(matches, "roll"),
     })

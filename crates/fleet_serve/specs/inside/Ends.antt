@@ -3,13 +3,13 @@ use Rattle.std.specs.Prelude.{◌≡◌, ℕ, ◌<◌, List, length, Vec}
 use Rattle.std.specs.declared.alloc.Global.{Global}
 use Rattle.fleet_book.specs.declared.event.Event.{Event}
 use Rattle.fleet_book.specs.declared.notice.Notice.{Notice}
-use Rattle.fleet_grid.specs.Floor.{Floor, IsNeighbour}
-use Rattle.fleet_grid.specs.Walk.{IsBridgeless}
+use Rattle.fleet_grid.specs.Floor.{Floor}
 use Rattle.fleet_history.specs.History.{History, clock}
 use Rattle.fleet_history.specs.Legal.{IsLegal}
 use Rattle.fleet_history.specs.Laws.{EachTick}
-use Rattle.fleet_planner.specs.Planned.{IsPlanned, IsAdvancingTick}
+use Rattle.fleet_planner.specs.Planned.{IsPlanned}
 use Rattle.fleet_bound.specs.Bound.{WaitsAreBounded}
+use Rattle.fleet_bound.specs.Roomy.{AdvancesIfRoomy, HasBound}
 use Rattle.fleet_core.specs.Core.{World}
 use Rattle.fleet_serve.specs.Posted.{TakesPosted, TakesAll, AreFullCounted, AreLastNotices}
 
@@ -21,8 +21,8 @@ pub record IsEnd (began : World Global) (events : List Event) (most clients lane
   pub opening : h.opening ≡ began.history.opening
   pub legal : IsLegal m h
   pub planned : EachTick (IsPlanned m began.ties) h
-  pub advancing : IsBridgeless (IsNeighbour m) → EachTick (IsAdvancingTick m) h
-  pub bounded : IsBridgeless (IsNeighbour m) → WaitsAreBounded m h
+  pub advancing : AdvancesIfRoomy m h
+  pub bounded : HasBound m h → WaitsAreBounded m h
   pub tick : ticks ≡ clock h
   pub posted : TakesPosted h events clients
   pub all : lane_full ≡ 0 → length events < most → TakesAll h events clients

@@ -77,7 +77,7 @@ impl<R: Clock> Clock for Paced<R> {
     }
 
     fn since_1970(&self) -> io::Result<Duration> {
-        self.monotonic()
+        Ok(Duration::from_micros(self.hands.micros.load(Ordering::SeqCst)))
     }
 
     fn sleep(&self, duration: Duration) {

@@ -3,7 +3,8 @@ use Rattle.std.proofs.Common.{◌≡◌, Option, ap, ◌∙◌, subst}
 use Rattle.std.proofs.lemmas.Result.{IfOk-weaker}
 use Rattle.std.specs.Option.{option_copied}
 use Rattle.fleet_lib.specs.Said.{Outcome, said_of}
-use Rattle.fleet_lib.specs.Check.{noted, outcome_of, IsOutcomeBy}
+use Rattle.fleet_lib.specs.Check.{noted, outcome_of, sized, IsOutcomeBy}
+use Rattle.fleet_plans.specs.declared.answer.PlanAnswer.{PlanAnswer}
 use Rattle.fleet_plans.specs.declared.form.TextForm.{TextForm}
 use Rattle.fleet_plans.specs.declared.misspelt.Misspelt.{Misspelt}
 use Rattle.fleet_plans.specs.Misspelt.{misspelt_of}
@@ -19,6 +20,10 @@ returns c =
     let form = c.form_by-form.result in
     let line = misspelt_of 1 (head_by form c.args.plan.now) in
     IfOk-weaker c.noted.result _ _
-    (λ s e. subst (λ (f : TextForm). IsOutcomeBy f c.args.strict (option_copied c.args.scenario) c.args.map.now c.args.plan.now (said_of s)) c.form_by-form.ensures
-    (answer, c.in_ok-answer.ensures, after_head (said_of s) (outcome_of answer) c.first_misspelt.result line (said_of c.in_ok-said.said) e c.first_misspelt.ensures c.in_ok-said.ensures))
+    (λ s e. subst (λ (f : TextForm). IsOutcomeBy f c.args.rules (option_copied c.args.scenario) c.args.map.now c.args.plan.now (said_of s)) c.form_by-form.ensures (
+      answer,
+      c.in_ok-answer.ensures,
+      after_head (said_of s) (outcome_of (sized c.args.rules.agents answer)) c.first_misspelt.result line (said_of c.in_ok-said.said) e c.first_misspelt.ensures
+          (c.in_ok-said.ensures ∙ ap (λ (a : PlanAnswer). outcome_of a) c.sized.ensures),
+    ))
     c.noted.ensures

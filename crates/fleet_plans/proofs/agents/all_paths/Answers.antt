@@ -1,5 +1,5 @@
 -- One more line is read, or is at fault.
-use Rattle.std.proofs.Common.{◌≡◌, ℕ, ◌+◌, ◌≤◌, List, [], ◌∷◌, ◌++◌, length, drop, slice_index_or, Option, Some, None, IfSome, ap, subst, sym, ◌∙◌, arith}
+use Rattle.std.proofs.Common.{◌≡◌, ℕ, ◌+◌, ◌≤◌, List, [], ◌∷◌, ◌++◌, length, drop, slice_index_or, inr, Option, Some, None, IfSome, ap, subst, sym, ◌∙◌, arith}
 use Rattle.std.proofs.lemmas.List.{length-append}
 use Rattle.fleet_map.specs.Text.{lines_of}
 use Rattle.fleet_plans.specs.declared.limit.TheConstants.{MOST_PLAN_BYTES}
@@ -53,7 +53,7 @@ returns-in_default-2-clause-fault c =
     record {
       robot = length paths;
       line_is = ap (λ (n : ℕ). n + 1) count;
-      inside = (drop_first lines (length paths) line after left).0;
+      inside = inr (drop_first lines (length paths) line after left).0;
       paths = paths;
       before = c.loop-line.invariant.read;
       none = in_place w h lines paths line after c.len-robot.result c.in_ok-path.field-0 left count c.in_ok-path.ensures.read None c.in_default-2.is;

@@ -9,5 +9,5 @@ is_count : (words : List (List ℕ)) (n : ℕ) → 1 ≤ n → one_in 1000000 wo
 is_count [] n some read = absurd cc
 is_count (word ∷ words) n some read = let low : leb 1 n ≡ true = le-leb 1 n some in rw (read, low) refl
 
-pub returns-in-Some : goal.returns-in-Some
-returns-in-Some c = is_count (words_of c.args.words.now) c.in-Some.count (omega arith) (sym c.in-Some.ensures)
+pub returns-in-Some-clause-exact : goal.returns-in-Some-clause-exact
+returns-in-Some-clause-exact c = is_count (words_of c.args.words.now) c.in-Some.count (omega arith) (sym c.in-Some.ensures)

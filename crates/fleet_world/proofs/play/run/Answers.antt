@@ -1,13 +1,12 @@
 use Rattle.std.proofs.Common.{◌≡◌, ℕ, List, map, sym, ap, ◌∙◌, subst}
-use Rattle.fleet_grid.specs.Floor.{IsNeighbour}
-use Rattle.fleet_grid.specs.Walk.{IsBridgeless}
 use Rattle.fleet_history.specs.Laws.{EachTick}
 use Rattle.fleet_history.specs.Legal.{IsLegal}
 use Rattle.fleet_history.proofs.Arrivals.{arrives-legal, arrivals_rise-legal}
 use Rattle.fleet_history.proofs.Legal.{no_conflict-legal, none_closed-legal}
 use Rattle.fleet_history.proofs.Once.{numbered-legal}
-use Rattle.fleet_planner.specs.Planned.{IsPlanned, IsAdvancingTick}
+use Rattle.fleet_planner.specs.Planned.{IsPlanned}
 use Rattle.fleet_bound.specs.Bound.{WaitsAreBounded}
+use Rattle.fleet_bound.specs.Roomy.{AdvancesIfRoomy, AreRoomy}
 use Rattle.fleet_world.specs.declared.reply.Reply.{Reply}
 use Rattle.fleet_core.specs.Core.{World, opened_world}
 use Rattle.fleet_core.specs.Hooks.{laws_of}
@@ -99,11 +98,11 @@ returns-in-Ok-clause-planned g c = subst (λ (w : World _). EachTick (IsPlanned 
 
 pub returns-in-Ok-clause-advancing : goal.returns-in-Ok-clause-advancing
 returns-in-Ok-clause-advancing g c =
-    subst (λ (w : World _). IsBridgeless (IsNeighbour w.floor) → EachTick (IsAdvancingTick w.floor) w.history) (world g c) (ended g c).end.advancing
+    subst (λ (w : World _). AdvancesIfRoomy w.floor w.history) (world g c) (ended g c).end.advancing
 
 pub returns-in-Ok-clause-bounded : goal.returns-in-Ok-clause-bounded
 returns-in-Ok-clause-bounded g c =
-    subst (λ (w : World _). IsBridgeless (IsNeighbour w.floor) → WaitsAreBounded w.floor w.history) (world g c) (ended g c).end.bounded
+    subst (λ (w : World _). AreRoomy w.floor w.history → WaitsAreBounded w.floor w.history) (world g c) (ended g c).end.bounded
 
 pub returns-in-Ok-clause-counts : goal.returns-in-Ok-clause-counts
 returns-in-Ok-clause-counts g c =

@@ -1,6 +1,4 @@
-use Rattle.fleet_history.specs.History.{history_of}
-use Rattle.fleet_planner.proofs.GoalsKept.{each_advances}
-use Rattle.fleet_core.proofs.WaitBound.{bound-kept, waits-kept}
+use Rattle.fleet_core.proofs.WaitBound.{advances-kept, bound-kept, waits-kept}
 use Rattle.fleet_core.proofs.CoreKept.{counts-small, pending-small}
 use Rattle.fleet_core.proofs.kernel.Core.chapter.Goals as goal
 
@@ -14,7 +12,7 @@ pub returns-clause-planned : goal.returns-clause-planned
 returns-clause-planned g c = rw (← c.self.view_is) c.self.invariant.tied.planned
 
 pub returns-clause-advancing : goal.returns-clause-advancing
-returns-clause-advancing g c = rw (← c.self.view_is) (each_advances c.self.inside.grid c.self.inside.ties.items (history_of c.self.inside.chapter) c.self.invariant.tied.planned)
+returns-clause-advancing g c = rw (← c.self.view_is) (advances-kept c.self.invariant)
 
 pub returns-clause-few : goal.returns-clause-few
 returns-clause-few g c = rw (← c.self.view_is) c.self.invariant.within.entries

@@ -1,6 +1,4 @@
-use Rattle.fleet_history.specs.History.{history_of}
-use Rattle.fleet_core.proofs.WaitBound.{waits-kept}
-use Rattle.fleet_planner.proofs.GoalsKept.{each_advances}
+use Rattle.fleet_core.proofs.WaitBound.{advances-kept, waits-kept}
 use Rattle.fleet_core.proofs.kernel.Core.finish.Goals as goal
 
 pub returns-clause-legal : goal.returns-clause-legal
@@ -10,7 +8,7 @@ pub returns-clause-planned : goal.returns-clause-planned
 returns-clause-planned g c = rw (← c.self.view_is) c.self.invariant.tied.planned
 
 pub returns-clause-advancing : goal.returns-clause-advancing
-returns-clause-advancing g c = rw (← c.self.view_is) (each_advances c.self.inside.grid c.self.inside.ties.items (history_of c.self.inside.chapter) c.self.invariant.tied.planned)
+returns-clause-advancing g c = rw (← c.self.view_is) (advances-kept c.self.invariant)
 
 pub returns-clause-bounded : goal.returns-clause-bounded
 returns-clause-bounded g c = rw (← c.self.view_is) (waits-kept c.self.invariant)

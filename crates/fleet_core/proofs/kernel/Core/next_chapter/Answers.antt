@@ -10,8 +10,9 @@ use Rattle.fleet_state.proofs.Parts.{queue-count}
 use Rattle.fleet_core.specs.Hooks.{AreArrivals, AreFarewells}
 use Rattle.fleet_core.specs.inside.Kept.{IsKept}
 use Rattle.fleet_bound.proofs.BoundLaws.{bound-next}
-use Rattle.fleet_core.proofs.WaitBound.{bound-kept, waits-kept}
-use Rattle.fleet_planner.proofs.GoalsKept.{each_advances, aimed-next}
+use Rattle.fleet_bound.proofs.Roomy.{bound-bridgeless}
+use Rattle.fleet_core.proofs.WaitBound.{advances-kept, bound-kept, waits-kept}
+use Rattle.fleet_planner.proofs.GoalsKept.{aimed-next}
 use Rattle.fleet_core.proofs.ClosuresKept.{arrivals-next, farewells-next}
 use Rattle.fleet_core.proofs.CoreKept.{boxes-next, within-next, within-room}
 use Rattle.fleet_core.proofs.FaultCases.{chapter-no_memory-book_spent, done}
@@ -43,14 +44,14 @@ invariant_of-self g c =
       boxed = boxes-next k.is.legal k.boxed;
       aimed = aimed-next k.is k.aimed;
       tied = record { count = k.tied.count ∙ sym (next-robots h); planned = each_tick-start (IsPlanned c.self.inside.grid c.self.inside.ties.items) (next_opening h) };
-      bounded = λ none. bound-next c.self.inside.grid h k.is.legal (bound-kept k none);
+      bounded = λ none. bound-next c.self.inside.grid h k.is.legal (bound-kept k (bound-bridgeless c.self.inside.grid h none));
     }))
 
 pub returns-clause-planned : goal.returns-clause-planned
 returns-clause-planned g c = rw (← c.self.view_is) c.self.invariant.tied.planned
 
 pub returns-clause-advancing : goal.returns-clause-advancing
-returns-clause-advancing g c = rw (← c.self.view_is) (each_advances c.self.inside.grid c.self.inside.ties.items (history_of c.self.inside.chapter) c.self.invariant.tied.planned)
+returns-clause-advancing g c = rw (← c.self.view_is) (advances-kept c.self.invariant)
 
 pub returns-clause-next : goal.returns-clause-next
 returns-clause-next g c = rw (← c.self.view_is, history_is g c, number_is g c) refl

@@ -5,6 +5,7 @@ use Rattle.fleet_grid.specs.Walk.{IsBridgeless}
 use Rattle.fleet_history.specs.History.{history_of, robots}
 use Rattle.fleet_bound.specs.Idle.{idle_within}
 use Rattle.fleet_bound.proofs.Limits.{limit-exact, limit-above}
+use Rattle.fleet_bound.proofs.Roomy.{bound-bridgeless}
 use Rattle.fleet_bound.proofs.TickCounts.{within-told}
 use Rattle.fleet_state.proofs.Parts.{robots-few}
 use Rattle.fleet_core.proofs.WaitBound.{waits-kept}
@@ -34,4 +35,4 @@ returns-clause-above g c = rw (← c.self.view_is)
     let told = within-told (IsBridgeless (IsNeighbour c.self.inside.grid)) c.self.inside.planner.bridgeless 1 c.robots.result (floor_count c.self.inside.grid) c.idle_within.result c.self.invariant.aimed.bridge (told_is g c) in
     limit-above c.self.inside.grid h c.idle_within.result
     (limit-exact c.self.inside.planner.bridgeless c.robots.result (robots h) (floor_count c.self.inside.grid) c.idle_within.result (robots_is g c) (told_is g c))
-    (λ some. waits-kept c.self.invariant (told.0 some)))
+    (λ some. waits-kept c.self.invariant (bound-bridgeless c.self.inside.grid h (told.0 some))))

@@ -1,0 +1,22 @@
+-- About how long a chapter's text is.
+use Rattle.std.specs.Prelude.{ℕ, ◌+◌, ◌-◌, ◌*◌, ◌^◌, length, decimal, min}
+use Rattle.live_parts.specs.Notices.{capped}
+
+-- a product that stops at the greatest number of 64 bits
+abbrev pub product : ℕ → ℕ → ℕ
+product a b = min (a * b) (2 ^ 64 - 1)
+
+-- an opening with empty queues
+abbrev pub opening_bytes : ℕ → ℕ → ℕ
+opening_bytes robots clients = capped (capped 128 (robots * 136)) (clients * 80)
+
+-- a tick in which no robot arrives, on a map of this many cells
+abbrev pub tick_bytes : ℕ → ℕ → ℕ
+tick_bytes robots cells = capped 128 (product robots (length (decimal cells) + 1))
+
+-- errands that are done, each with its robot's farewell
+abbrev pub arrived_bytes : ℕ → ℕ
+arrived_bytes arrived = arrived * 104
+
+abbrev pub order_bytes : ℕ → ℕ
+order_bytes orders = orders * 96
