@@ -10,7 +10,6 @@ mod Stamps
 mod Openings
 mod Arrivals
 mod Places
-mod Planned
 mod Shuts
 mod HeadSaid
 mod Serves

@@ -1,17 +1,16 @@
 //! What is wrong with a plan.
 
-ghost use Rattle.std.specs.Prelude.{◌≡◌, ◌≤◌, length, slice_index, IfOk};
-ghost use Rattle.fleet_plans.specs.Valid.{place_at};
+ghost use Rattle.std.specs.Prelude.{◌≡◌, ◌≤◌, length, IfOk};
 ghost use Rattle.fleet_plans.specs.Form.{form_of};
-ghost use Rattle.fleet_explain.specs.Plans.{robot_of, misplaced, IsJsonSaid, IsSaid, IsPlanExplained};
+ghost use Rattle.fleet_explain.specs.Plans.{misplaced, IsJsonSaid, IsSaid, IsPlanExplained};
 
 use crate::explanation::{Explanation, map_explanation};
 use crate::position::{Position, stop_of};
 use fleet_check::StepFault;
 use fleet_map::read_map;
 use fleet_plans::{
-    GoalFault, HeadFault, MOST_PLAN_BYTES, Placements, PlanAnswer, PlanFault, RunnersFault, Study,
-    TextForm, form_of, study_texts,
+    GoalFault, HeadFault, MOST_PLAN_BYTES, PlanAnswer, PlanFault, RunnersFault, TextForm,
+    check_texts, form_of,
 };
 use std::alloc::{AllocError, Global};
 
@@ -55,37 +54,16 @@ pub enum PlanExplanation {
     Goals(GoalFault),
 }
 
-/// The first robot at fault; 0 if none is.
-fn robot_of(fault: StepFault) -> usize
-    ensures { result ≡ robot_of fault }
+/// The fault, on a map of this width.
+fn fault_on(width: u32, fault: PlanFault) -> Misplaced
+    ensures { result ≡ misplaced width fault }
 {
-    match fault {
-        StepFault::Length | StepFault::NoMemory => 0,
-        StepFault::OffFloor(robot) | StepFault::NotAdjacent(robot) => robot as usize,
-        StepFault::Vertex(first, _) | StepFault::Swap(first, _) => first as usize,
-    }
-}
-
-/// The robot's cell at a time; 0 if it has none.
-fn cell_at(places: &Placements, time: usize, robot: usize) -> u32
-    ensures { result ≡ slice_index (place_at places.now time) robot }
-{
-    let place = places.at(time);
-    if robot < place.len() { place[robot] } else { 0 }
-}
-
-/// The fault with the cells of the first robot at fault.
-fn fault_at(width: u32, places: &Placements, fault: PlanFault) -> Misplaced
-    ensures { result ≡ misplaced width places.now fault }
-{
-    let robot = robot_of(fault.fault);
-    let time = fault.time as usize;
     Misplaced {
         time: fault.time,
         fault: fault.fault,
         width,
-        from: cell_at(places, time.saturating_sub(1), robot),
-        to: cell_at(places, time, robot),
+        from: fault.from,
+        to: fault.to,
     }
 }
 
@@ -110,11 +88,16 @@ fn json_explained(
     }
 }
 
-/// What is wrong with a text, of which this is said.
-fn explained(alloc: Global, text: &[u8], study: &Study) -> Result<PlanExplanation, AllocError>
-    ensures { IfOk result (IsSaid (form_of text.now) study.now.width study.now.places study.now.answer) }
+/// What is wrong with a text, of which this is said on a map of this width.
+fn explained(
+    alloc: Global,
+    text: &[u8],
+    width: u32,
+    answer: PlanAnswer,
+) -> Result<PlanExplanation, AllocError>
+    ensures { IfOk result (IsSaid (form_of text.now) width answer) }
 {
-    let explanation = match study.answer {
+    let explanation = match answer {
         PlanAnswer::Map(fault) => PlanExplanation::Map(Explanation::Map(fault)),
         PlanAnswer::Text(line) => PlanExplanation::Line(line, form_of(text)),
         PlanAnswer::Cut(line) => PlanExplanation::Cut(line),
@@ -122,27 +105,25 @@ fn explained(alloc: Global, text: &[u8], study: &Study) -> Result<PlanExplanatio
         PlanAnswer::Json(fault) => return json_explained(alloc, text, fault),
         PlanAnswer::Head(fault) => PlanExplanation::Head(fault),
         PlanAnswer::Valid(_report) => PlanExplanation::Fine,
-        PlanAnswer::Invalid(fault) => {
-            PlanExplanation::Placed(fault_at(study.width, &study.places, fault))
-        }
+        PlanAnswer::Invalid(fault) => PlanExplanation::Placed(fault_on(width, fault)),
         PlanAnswer::Goals { time: _, fault } => PlanExplanation::Goals(fault),
     };
     Ok(explanation)
 }
 
 /// What is wrong with a map or with a plan on it: first whether the map can be read, then the plan's text, then the
-/// first placement at fault, then what the head says. The only error is out of memory.
+/// first placement at fault, then what the head says. No placement is kept. The only error is out of memory.
 pub fn explain_plan(alloc: Global, map: &[u8], text: &[u8]) -> Result<PlanExplanation, AllocError>
     requires { length text.now ≤ MOST_PLAN_BYTES }
     ensures { IfOk result (λ e. IsPlanExplained map.now text.now e) }
 {
-    let _floor = match read_map(alloc, map) {
-        Ok(floor) => floor,
+    let width = match read_map(alloc, map) {
+        Ok(floor) => floor.width,
         Err(fault) => {
             let explanation = map_explanation(alloc, map, fault)?;
             return Ok(PlanExplanation::Map(explanation));
         }
     };
-    let study = study_texts(alloc, map, text)?;
-    explained(alloc, text, &study)
+    let answer = check_texts(alloc, map, text)?;
+    explained(alloc, text, width, answer)
 }

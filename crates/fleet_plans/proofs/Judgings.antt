@@ -7,7 +7,7 @@ use Rattle.fleet_grid.specs.Floor.{Floor}
 use Rattle.fleet_grid.specs.Step.{IsPlacement, IsConflictFree}
 use Rattle.fleet_check.specs.Fault.{IsPlacementFault, IsFirstFault}
 use Rattle.fleet_plans.specs.declared.judging.PlanFault.{PlanFault}
-use Rattle.fleet_plans.specs.Valid.{place_at, AreStepsFree}
+use Rattle.fleet_plans.specs.Valid.{place_at, AreStepsFree, robot_at_fault, HasCells}
 use Rattle.fleet_plans.specs.Costs.{AreCostsBy, IsNoted}
 use Rattle.fleet_plans.specs.Judge.{Judged, HasPassed, HasFailed, IsSoFar, AreKept, HasJudged}
 use Rattle.fleet_plans.proofs.Moves.{costs_along, costs_more}
@@ -65,8 +65,19 @@ module _ (m : Floor) (places : List (List ℕ)) (place : List ℕ) where
               subst (λ (k : ℕ). AreCostsBy (places ++ place ∷ []) k new) same now;
         }
 
-    pub failed_now : (f : PlanFault) → f.time ≡ length places → IsFirstFault m last place f.fault → HasFailed m (places ++ place ∷ []) f
-    failed_now f when first =
+    -- the cells are those of the last placement and of the new one
+    cells_now : (f : PlanFault) → f.time ≡ length places → f.from ≡ slice_index last (robot_at_fault f.fault) → f.to ≡ slice_index place (robot_at_fault f.fault) → HasCells (places ++ place ∷ []) f
+    cells_now f when from to =
+        let at : ℕ → List ℕ = λ t. place_at (places ++ place ∷ []) t in
+        let robot = robot_at_fault f.fault in
+        record {
+          before = from ∙ ap (λ (q : List ℕ). slice_index q robot) (sym from_is) ∙ ap (λ (t : ℕ). slice_index (at (t - 1)) robot) (sym when);
+          there = to ∙ ap (λ (q : List ℕ). slice_index q robot) (sym (last_at f.time when));
+        }
+
+    pub failed_now : (f : PlanFault) → f.time ≡ length places → IsFirstFault m last place f.fault → f.from ≡ slice_index last (robot_at_fault f.fault) → f.to ≡ slice_index place (robot_at_fault f.fault)
+        → HasFailed m (places ++ place ∷ []) f
+    failed_now f when first from to =
         let size = length_more places place in
         let before : f.time ≡ length places - 1 + 1 = omega (arith, when, some) in
         let next : length places - 1 + 1 ≡ length places = omega (arith, some) in
@@ -84,6 +95,7 @@ module _ (m : Floor) (places : List (List ℕ)) (place : List ℕ) where
                   (subst (λ (q : List ℕ). IsFirstFault m last q f.fault) (sym (last_at (length places - 1 + 1) next)) first);
             },
           );
+          cells = cells_now f when from to;
         }
 
 -- what was at fault stays at fault, whatever comes after
@@ -95,6 +107,12 @@ module _ (m : Floor) (places more : List (List ℕ)) where
   still_free n inner free = λ t less.
       subst (λ (q : List ℕ). IsConflictFree m q (place_at (places ++ more) (t + 1))) (sym (still_at t (omega (arith, less, inner))))
       (subst (λ (q : List ℕ). IsConflictFree m (place_at places t) q) (sym (still_at (t + 1) (omega (arith, less, inner)))) (free t less))
+
+  cells_stay : (f : PlanFault) → f.time < length places → HasCells places f → HasCells (places ++ more) f
+  cells_stay f inside was = record {
+    before = was.before ∙ ap (λ (q : List ℕ). slice_index q (robot_at_fault f.fault)) (sym (still_at (f.time - 1) (omega (arith, inside))));
+    there = was.there ∙ ap (λ (q : List ℕ). slice_index q (robot_at_fault f.fault)) (sym (still_at f.time inside));
+  }
 
   pub failed_more : (f : PlanFault) → HasFailed m places f → HasFailed m (places ++ more) f
   failed_more f was =
@@ -119,6 +137,7 @@ module _ (m : Floor) (places more : List (List ℕ)) where
                 },
               )
         ];
+        cells = cells_stay f was.inside was.cells;
       }
 
 -- a judge that has found a fault and keeps nothing, before and after it counts more placements
@@ -160,11 +179,11 @@ module _ (m : Floor) (places : List (List ℕ)) (place : List ℕ) (old new : Ju
   judged_on f before after = judged_by (Some f) after (failed_more m places (place ∷ []) f (so_far_is (Some f) before))
 
   pub judged_at_fault : (f : PlanFault) → 1 ≤ old.count → old.fault ≡ None → new.fault ≡ Some f → f.time ≡ old.count → IsFirstFault old.floor old.last place f.fault
-      → HasJudged m (places ++ place ∷ []) new
-  judged_at_fault f some before after when first =
+      → f.from ≡ slice_index old.last (robot_at_fault f.fault) → f.to ≡ slice_index place (robot_at_fault f.fault) → HasJudged m (places ++ place ∷ []) new
+  judged_at_fault f some before after when first from to =
       judged_by (Some f) after
       (failed_now m places place old.first old.last old.costs (omega (arith, some, was.count_is)) (so_far_is None before) f (when ∙ was.count_is)
-      (subst (λ (x : Floor). IsFirstFault x old.last place f.fault) was.on first))
+      (subst (λ (x : Floor). IsFirstFault x old.last place f.fault) was.on first) from to)
 
   pub judged_free : 1 ≤ old.count → old.fault ≡ None → new.fault ≡ None → new.first ≡ old.first → new.last ≡ place → IsConflictFree old.floor old.last place → length new.costs ≡ length old.costs
       → ((r : ℕ) → r < length old.costs → IsNoted old.last place old.count r (slice_index old.costs r) (slice_index new.costs r)) → HasJudged m (places ++ place ∷ []) new

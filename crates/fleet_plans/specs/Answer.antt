@@ -17,7 +17,7 @@ use Rattle.fleet_plans.specs.declared.fault.PlanTextFault.TheVariants as line_fa
 use Rattle.fleet_plans.specs.declared.runners.fault.RunnersFault.TheVariants as told
 use Rattle.fleet_plans.specs.declared.text.TextFault.{TextFault}
 use Rattle.fleet_plans.specs.declared.text.TextFault.TheVariants as fault
-use Rattle.fleet_plans.specs.Valid.{place_at, last_of, IsValidPlan, IsPlanFault}
+use Rattle.fleet_plans.specs.Valid.{place_at, last_of, IsValidPlan, IsPlanFault, HasCells}
 use Rattle.fleet_plans.specs.Report.{IsReportOf}
 use Rattle.fleet_plans.specs.Claims.{unmet}
 use Rattle.fleet_plans.specs.Scenario.{scenario_of, Trips}
@@ -57,7 +57,7 @@ valid_answer asked head goals first last r = or_unmet r (unmet head r) (undone a
 pub data IsJudged (m : Floor) (asked : Asked) (head : List (List ℕ)) (goals : Option (List ℕ)) (places : List (List ℕ)) (a : PlanAnswer) : Type 0 where
   free : (report : PlanReport) → IsValidPlan m places → IsReportOf goals places report
       → a ≡ valid_answer asked head goals (place_at places 0) (last_of places) report → IsJudged m asked head goals places a
-  conflict : (fault : PlanFault) → IsPlanFault m places fault.time fault.fault → a ≡ answer.Invalid fault → IsJudged m asked head goals places a
+  conflict : (fault : PlanFault) → IsPlanFault m places fault.time fault.fault → HasCells places fault → a ≡ answer.Invalid fault → IsJudged m asked head goals places a
 
 -- the text, read in this form, first, then the plan
 pub data IsTextAnswer (asked : Asked) (m : Map) (form : TextForm) (text : List ℕ) (a : PlanAnswer) : Type 0 where

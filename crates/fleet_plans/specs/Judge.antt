@@ -3,7 +3,7 @@ use Rattle.std.specs.Prelude.{◌≡◌, ℕ, ◌-◌, ◌<◌, List, length, Op
 use Rattle.fleet_grid.specs.Floor.{Floor}
 use Rattle.fleet_grid.specs.Step.{IsPlacement}
 use Rattle.fleet_plans.specs.declared.judging.PlanFault.{PlanFault}
-use Rattle.fleet_plans.specs.Valid.{place_at, AreStepsFree, IsPlanFault}
+use Rattle.fleet_plans.specs.Valid.{place_at, AreStepsFree, IsPlanFault, HasCells}
 use Rattle.fleet_plans.specs.Costs.{AreCostsBy}
 
 pub record Judged : Type 0 where
@@ -32,6 +32,7 @@ pub record HasPassed (m : Floor) (places : List (List ℕ)) (first last costs : 
 pub record HasFailed (m : Floor) (places : List (List ℕ)) (f : PlanFault) : Type 0 where
   pub inside : f.time < length places
   pub first : IsPlanFault m places f.time f.fault
+  pub cells : HasCells places f
 
 abbrev pub IsSoFar : Floor → List (List ℕ) → List ℕ → List ℕ → List ℕ → Option PlanFault → Type 0
 IsSoFar m places first last costs None = HasPassed m places first last costs

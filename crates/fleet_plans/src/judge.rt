@@ -5,14 +5,15 @@ mod part;
 ghost use Rattle.std.specs.Prelude.{◌≡◌, ◌≤◌, ◌<◌, ◌+◌, ◌++◌, ◌∷◌, ◌^◌, ℕ, List, [], length, slice_index, Some, None, MatchOption, OnOk, IfOk, IfErr, IsOk, IsSome, IsTrue, option_map};
 ghost use Rattle.fleet_grid.specs.Floor.{Floor};
 ghost use Rattle.fleet_grid.specs.Step.{IsPlacement};
-ghost use Rattle.fleet_plans.specs.Valid.{IsValidPlan, IsPlanFault, place_at, last_of};
+ghost use Rattle.fleet_plans.specs.declared.judging.PlanFault.{PlanFault};
+ghost use Rattle.fleet_plans.specs.Valid.{IsValidPlan, IsPlanFault, HasCells, place_at, last_of};
 ghost use Rattle.fleet_plans.specs.Report.{IsReportOf};
 ghost use Rattle.fleet_plans.specs.Costs.{IsNoted};
 ghost use Rattle.fleet_plans.specs.Judge.{AreKept, HasJudged};
 ghost use Rattle.fleet_plans.specs.Shown.{goals_in};
 
 use crate::costs::{note_moves, zeros};
-use crate::judging::{PlanFault, first_fault, step_fault};
+use crate::judging::{PlanFault, fault_between, first_fault, step_fault};
 use crate::placements::Placements;
 use crate::report::{PlanReport, report_of};
 use fleet_check::StepChecker;
@@ -187,7 +188,7 @@ impl<'a, A: Allocator + Copy, B: Allocator + Copy> PlanJudge<'a, A, B> {
         match first_fault(self.alloc, self.grid, place)? {
             Some(fault) => {
                 keep(&mut self.kept, place)?;
-                self.fault = Some(PlanFault { time: 0, fault });
+                self.fault = Some(fault_between(0, fault, place, place));
             }
             None => {
                 let first = Vec::from_slice(self.alloc, place)?;
@@ -218,7 +219,7 @@ impl<'a, A: Allocator + Copy, B: Allocator + Copy> PlanJudge<'a, A, B> {
         let found = step_fault(&mut self.checker, self.grid, &self.last, place)?;
         keep(&mut self.kept, place)?;
         if let Some(fault) = found {
-            self.fault = Some(PlanFault { time, fault });
+            self.fault = Some(fault_between(time, fault, &self.last, place));
             self.count += 1;
             return Ok(());
         }
@@ -237,6 +238,7 @@ impl<'a, A: Allocator + Copy, B: Allocator + Copy> PlanJudge<'a, A, B> {
     /// The first fault of the placements taken; `None` if they are a valid plan.
     pub fn fault(&self) -> Option<PlanFault>
         ensures first { (m : Floor) (places : List (List ℕ)) → HasJudged m places self.now → MatchOption result (IsValidPlan m places) (λ f. IsPlanFault m places f.time f.fault) }
+        ensures cells { (m : Floor) (places : List (List ℕ)) (f : PlanFault) → HasJudged m places self.now → result ≡ Some f → HasCells places f }
         ensures lawful { (m : Floor) (places : List (List ℕ)) → HasJudged m places self.now → IsValidPlan m places → result ≡ None }
     {
         self.fault
@@ -273,6 +275,7 @@ impl<'a, A: Allocator + Copy, B: Allocator + Copy> PlanJudge<'a, A, B> {
         ensures valid { (m : Floor) (places : List (List ℕ)) → HasJudged m places self.now → OnOk result (IsValidPlan m places) }
         ensures report { (m : Floor) (places : List (List ℕ)) → HasJudged m places self.now → IfOk result (λ report. IsReportOf (goals_in goals.entry) places report) }
         ensures fault { (m : Floor) (places : List (List ℕ)) → HasJudged m places self.now → IfErr result (λ f. IsPlanFault m places f.time f.fault) }
+        ensures cells { (m : Floor) (places : List (List ℕ)) → HasJudged m places self.now → IfErr result (λ f. HasCells places f) }
         ensures lawful { (m : Floor) (places : List (List ℕ)) → HasJudged m places self.now → IsValidPlan m places → IsOk result }
         // The judge has the first and the last placement of a valid plan.
         ensures first { (m : Floor) (places : List (List ℕ)) → HasJudged m places self.now → OnOk result (self.now.first ≡ place_at places 0) }

@@ -76,6 +76,9 @@ fn the_first_fault_stays(rt: HostRuntime) {
     let first = PlanFault {
         time: 2,
         fault: StepFault::Vertex(0, 1),
+        // Robot 0 comes from cell 1.
+        from: 1,
+        to: 0,
     };
     let found = verdict(rt.alloc(), &places, None).expect(&rt, "memory");
     assert_eq!(rt; found, Err(first));

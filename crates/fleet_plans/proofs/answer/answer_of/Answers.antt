@@ -20,4 +20,4 @@ returns-in-Ok g c = λ m places is.
     ∙ (ap (λ (f : List ℕ). valid_answer asks lines goals f c.last.result.now report) first ∙ ap (λ (l : List ℕ). valid_answer asks lines goals (place_at places 0) l report) last))
 
 pub returns-in-Err : goal.returns-in-Err
-returns-in-Err g c = λ m places is. conflict c.in-Err.fault (c.in-Err.ensures.fault m places is) refl
+returns-in-Err g c = λ m places is. conflict c.in-Err.fault (c.in-Err.ensures.fault m places is) (c.in-Err.ensures.cells m places is) refl
