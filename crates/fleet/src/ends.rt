@@ -2,6 +2,7 @@
 
 ghost use Rattle.std.specs.Prelude.{◌<◌, ◌≤◌, ◌^◌, vec_len, IfOk};
 
+use crate::density::is_dense;
 use fleet_lib::{InputFault, fail, read_up_to, write_whole};
 use std::alloc::{Alloc, AllocError, Global};
 use std::fs::{File, Files};
@@ -21,8 +22,8 @@ pub(crate) enum FileFault<'a> {
     TooLarge(&'a str),
     /// It begins with a byte order mark.
     Marked(&'a str),
-    /// It is JSON with more objects than a plan or a trace can have.
-    Crowded(&'a str),
+    /// It is JSON that takes many times its length in memory.
+    Dense(&'a str),
     /// Memory ran out.
     NoMemory,
 }
@@ -50,38 +51,19 @@ fn is_marked(text: &[u8]) -> bool {
     text.len() >= 3 && &text[..3] == b"\xEF\xBB\xBF".as_slice()
 }
 
-/// Whether a text is JSON, and has more than 64 objects and more than one in 64 bytes, which is more than any plan or
-/// trace has. Each takes some 800 bytes while it is read.
-fn is_crowded(text: &[u8]) -> bool {
-    let mut objects: usize = 0;
-    let mut begun = false;
-    for byte in text {
-        if !begun && !matches!(*byte, b' ' | b'\t' | b'\n' | b'\r') {
-            if *byte != b'{' {
-                return false;
-            }
-            begun = true;
-        }
-        if *byte == b'{' {
-            objects = objects.saturating_add(1);
-        }
-    }
-    objects > 64 && objects > text.len() / 64
-}
-
 /// What is wrong with the text of the file with this name, in any form.
 fn text_fault<'a>(name: &'a str, text: &[u8]) -> Option<FileFault<'a>> {
     if is_marked(text) {
         Some(FileFault::Marked(name))
-    } else if is_crowded(text) {
-        Some(FileFault::Crowded(name))
+    } else if is_dense(text) {
+        Some(FileFault::Dense(name))
     } else {
         None
     }
 }
 
 /// Everything that a file has, at most `most` bytes. A byte order mark at its begin is a fault, since no text here has
-/// one, and so are too many objects.
+/// one, and so is JSON that takes too much memory for its length.
 pub(crate) fn file_bytes<'a, R: Files + Alloc<A = Global>>(
     rt: &R,
     name: &'a str,
@@ -112,7 +94,7 @@ fn line_of(alloc: Global, fault: FileFault<'_>) -> Result<String, AllocError> {
         FileFault::Missing(name) => format!(in alloc; "fleet: file {name} missing\n"),
         FileFault::Unreadable(name) => format!(in alloc; "fleet: file {name} unreadable\n"),
         FileFault::TooLarge(name) => format!(in alloc; "fleet: file {name} too-large\n"),
-        FileFault::Crowded(name) => format!(in alloc; "fleet: file {name} too-many-objects\n"),
+        FileFault::Dense(name) => format!(in alloc; "fleet: file {name} too-dense\n"),
         FileFault::Marked(name) => format!(in alloc; "fleet: file {name} byte-order-mark\n"),
         FileFault::NoMemory => Err(AllocError),
     }

@@ -9,6 +9,7 @@
 mod chapters;
 mod check;
 mod convert;
+mod density;
 mod descriptors;
 mod ends;
 mod explain;
