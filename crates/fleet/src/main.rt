@@ -2,8 +2,8 @@
 //! map, with `--svg` a moving picture, with `--tick N` a picture of what stands after N ticks. `fleet check MAP PLAN`
 //! judges a plan of any planner. `fleet stats MAP TRACE..` prints figures of traces. `fleet talk MAP` answers lines as
 //! they come. `fleet convert --to FORM MAP INPUT` prints a trace as a plan, or a plan as a trace, and `fleet explain
-//! MAP [INPUT]` says what is wrong with files. `fleet live MAP` keeps a fleet in real time. What each word does is in
-//! `fleet_lib`.
+//! MAP [INPUT]` says what is wrong with files. `fleet live MAP` keeps a fleet in real time. `fleet judge MAP TRACE..`
+//! judges traces. What each word does is in `fleet_lib`.
 #![tactic(auto)]
 
 mod chapters;
@@ -17,6 +17,7 @@ mod figures;
 mod files;
 mod folder;
 mod inputs;
+mod judge;
 mod kept_file;
 mod live;
 mod lock;
@@ -33,6 +34,7 @@ use descriptors::are_open;
 use explain::run_explain;
 use fleet_lib::{InputFault, Job, WordFault, fail, parse_words, write_whole};
 use folder::{Start, complain_of_folder, hold_folder, tell_start};
+use judge::run_judge;
 use live::live_on;
 use piped::Piped;
 use stats::run_stats;
@@ -113,6 +115,7 @@ fn main(rt: HostRuntime) -> ExitCode {
         Ok(Job::Convert(convert)) => run_convert(&rt, &convert, &mut output, &mut error),
         Ok(Job::Explain(explain)) => run_explain(&rt, &explain, &mut output, &mut error),
         Ok(Job::Stats(stats)) => run_stats(&rt, &stats, &mut output, &mut error),
+        Ok(Job::Judge(judge)) => run_judge(&rt, &judge, &mut output, &mut error),
         Ok(Job::Live(live)) => {
             let name = live.traces.as_deref();
             let start = Start::of(live.resume, live.resume_only);

@@ -23,6 +23,7 @@ use Rattle.fleet_lib.specs.declared.words.live.Live.{Live as LiveJob}
 use Rattle.fleet_lib.specs.declared.words.stats.Figures.{Figures}
 use Rattle.fleet_lib.specs.declared.words.stats.Figures.TheVariants as figures
 use Rattle.fleet_lib.specs.declared.words.stats.Stats.{Stats as StatsJob}
+use Rattle.fleet_lib.specs.declared.words.judge.Judge.{Judge as JudgeJob}
 use Rattle.fleet_lib.specs.declared.words.job.Job.{Job}
 use Rattle.fleet_lib.specs.declared.words.job.Job.TheVariants as job
 
@@ -152,6 +153,11 @@ pub record IsStats (rows : List Row) (stats : StatsJob) : Type 0 where
   pub traces : all_of (codes "TRACE") rows ≡ Some (map (λ s. string_bytes s) stats.traces.items)
   pub figures : stats.figures ≡ figures_in rows
 
+-- what the words after `judge` ask for
+pub record IsJudge (rows : List Row) (judge : JudgeJob) : Type 0 where
+  pub floor : first_of (codes "MAP") rows ≡ Some (string_bytes judge.map)
+  pub traces : all_of (codes "TRACE") rows ≡ Some (map (λ s. string_bytes s) judge.traces.items)
+
 -- the job of a subcommand and the words that stand for its arguments
 abbrev pub IsJobOf : Option (Text × List Row) → Job → Type 0
 IsJobOf found (job.View view) = (rows : List Row) × (found ≡ Some (codes "view", rows)) × IsView rows view
@@ -161,3 +167,4 @@ IsJobOf found (job.Convert convert) = (rows : List Row) × (found ≡ Some (code
 IsJobOf found (job.Explain explain) = (rows : List Row) × (found ≡ Some (codes "explain", rows)) × IsExplain rows explain
 IsJobOf found (job.Live live) = (rows : List Row) × (found ≡ Some (codes "live", rows)) × IsLive rows live
 IsJobOf found (job.Stats stats) = (rows : List Row) × (found ≡ Some (codes "stats", rows)) × IsStats rows stats
+IsJobOf found (job.Judge judge) = (rows : List Row) × (found ≡ Some (codes "judge", rows)) × IsJudge rows judge

@@ -39,6 +39,10 @@ abbrev pub stats_app : App
 stats_app = with_rules (new_app (codes "stats"))
     (flag_rule (codes "json") ∷ value_rule (codes "csv") ∷ file_rule (codes "MAP") ∷ files_rule (codes "TRACE") ∷ [])
 
+-- judge MAP TRACE..
+abbrev pub judge_app : App
+judge_app = with_rules (new_app (codes "judge")) (file_rule (codes "MAP") ∷ files_rule (codes "TRACE") ∷ [])
+
 -- fleet, which tells its version and wants a word
 abbrev pub fleet_app : App
-fleet_app = with_words (program_top (codes "fleet") true) (view_app ∷ check_app ∷ talk_app ∷ convert_app ∷ explain_app ∷ live_app ∷ stats_app ∷ [])
+fleet_app = with_words (program_top (codes "fleet") true) (view_app ∷ check_app ∷ talk_app ∷ convert_app ∷ explain_app ∷ live_app ∷ stats_app ∷ judge_app ∷ [])

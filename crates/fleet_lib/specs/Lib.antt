@@ -11,3 +11,4 @@ pub mod View
 pub mod Check
 pub mod Command
 pub mod Asked
+pub mod Judge

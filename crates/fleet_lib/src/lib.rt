@@ -7,6 +7,7 @@ mod convert;
 mod ending;
 mod explain;
 mod holding;
+mod judge;
 mod kept;
 mod live;
 mod names;
@@ -29,6 +30,7 @@ pub use fleet_live::{LiveEnds, Pipes};
 pub use fleet_plans::{MOST_PLAN_BYTES, TextForm, is_plan};
 pub use fleet_talk::{ChapterSink, Ends, Settings, SinkFault};
 pub use fleet_text::{InputFault, read_up_to, trace_line, write_whole};
+pub use judge::{Judgement, answer_judge};
 pub use kept::{KeptFault, KeptText};
 pub use live::run_live;
 pub use names::{NamesFault, last_chapter};
@@ -39,6 +41,6 @@ pub use stats::answer_stats;
 pub use talk::{TalkTexts, run_talk};
 pub use view::{MOST_TRACE_BYTES, answer_view};
 pub use words::{
-    Check, Convert, Explain, Figures, FormAsked, Job, Live, Shown, Stats, Talk, Target, View,
-    WordFault, parse_words,
+    Check, Convert, Explain, Figures, FormAsked, Job, Judge, Live, Shown, Stats, Talk, Target,
+    View, WordFault, parse_words,
 };
