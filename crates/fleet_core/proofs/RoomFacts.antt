@@ -1,9 +1,8 @@
 -- Queues whose errands go to roomy cells, by a list of how roomy each cell is.
-use Rattle.std.proofs.Common.{◌≡◌, ◌∙◌, ℕ, ◌+◌, ◌^◌, ◌<◌, ◌≤◌, inl, inr, List, length, map, get_or, drop, take, Bool, true, false, ◌&&◌, Option, Some, None, IsTrue, sym, refl, ap, subst, arith}
-use Rattle.std.specs.Prelude.{All, ◌↔◌, IsSome, slice_index, unwrap_or, slice_get}
+use Rattle.std.proofs.Common.{◌≡◌, ◌∙◌, ℕ, ◌+◌, ◌<◌, ◌≤◌, List, map, get_or, take, Bool, true, false, ◌&&◌, Some, IsTrue, sym, refl, ap, subst, arith}
+use Rattle.std.specs.Prelude.{All, ◌↔◌, slice_index, slice_get}
 use Rattle.std.specs.List.{list_all, range_with_len}
 use Rattle.std.proofs.lemmas.Bool.{le-leb, leb-true}
-use Rattle.std.proofs.lemmas.List.{length-map}
 use Rattle.std.proofs.lemmas.List.Folds.{list_all-map, list_all_at, list_all_more}
 use Rattle.std.proofs.lemmas.List.FromFn.{get_or-map-range_with_len, length-map-range_with_len}
 use Rattle.std.proofs.lemmas.List.Sums.{AllPass-from_list_all, list_all-from_AllPass}
@@ -13,9 +12,9 @@ use Rattle.fleet_grid.specs.Counts.{floor_count}
 use Rattle.fleet_grid.specs.Floor.{Floor}
 use Rattle.fleet_queue.specs.declared.errand.Errand.{Errand}
 use Rattle.fleet_queue.specs.Queue.{Queue}
-use Rattle.fleet_history.specs.History.{History, place, robots, unfinished}
+use Rattle.fleet_history.specs.History.{History, robots, unfinished}
 use Rattle.fleet_history.specs.Legal.{IsLegal}
-use Rattle.fleet_history.proofs.Reach.{CanBeReached, legal-reach}
+use Rattle.fleet_history.proofs.Reach.{legal-reach}
 use Rattle.fleet_state.specs.State.{by_robot}
 use Rattle.fleet_hooks.specs.declared.law.TieLaw.{TieLaw}
 use Rattle.fleet_bound.specs.Idle.{idle_ticks, longest_after, wait_limit}

@@ -1,5 +1,5 @@
 -- Errands by how many robots a list says that their cells are roomy for.
-use Rattle.std.specs.Prelude.{ℕ, ◌≤◌, List, Bool, nat_le, slice_index}
+use Rattle.std.specs.Prelude.{ℕ, List, Bool, nat_le, slice_index}
 use Rattle.std.specs.List.{list_all}
 use Rattle.fleet_queue.specs.declared.errand.Errand.{Errand}
 use Rattle.fleet_queue.specs.Queue.{Queue}
