@@ -1,5 +1,5 @@
 -- Planned ticks advance while each unfinished errand goes to a roomy cell, whatever was done before.
-use Rattle.std.proofs.Common.{◌≡◌, ℕ, ◌≤◌, inl, inr, List, [], ◌∷◌, ◌++◌, length, map, false, sym, refl, ap, subst, ◌∙◌, arith}
+use Rattle.std.proofs.Common.{◌≡◌, ℕ, ◌<◌, ◌≤◌, inl, inr, List, [], ◌∷◌, ◌++◌, length, map, false, sym, refl, ap, subst, ◌∙◌, arith}
 use Rattle.std.specs.Prelude.{All}
 use Rattle.std.specs.List.{range_with_len, flat_map}
 use Rattle.std.proofs.lemmas.Bool.{cases_lt}
@@ -17,7 +17,7 @@ use Rattle.fleet_history.specs.declared.history.Opening.{Opening}
 use Rattle.fleet_history.specs.declared.history.RobotState.{RobotState}
 use Rattle.fleet_history.specs.History.{History, start, after, robots, front, joined, unfinished, errands_at, errand_for, accepted_by}
 use Rattle.fleet_history.specs.Laws.{EachTick}
-use Rattle.fleet_history.specs.Legal.{IsLegal, Fits}
+use Rattle.fleet_history.specs.Legal.{IsInOrder, IsLegal, Fits}
 use Rattle.fleet_history.specs.Taking.{kept_by}
 use Rattle.fleet_history.specs.Waits.{wait}
 use Rattle.fleet_history.specs.inside.Landing.{landed}
@@ -27,7 +27,8 @@ use Rattle.fleet_history.proofs.Withdrawals.{unfinished-start}
 use Rattle.fleet_planner.specs.Planned.{waits, IsPlanned}
 use Rattle.fleet_bound.specs.Idle.{idle_ticks, longest_after}
 use Rattle.fleet_bound.specs.Onward.{onward, GoesOn, TakesNothing, is_take}
-use Rattle.fleet_bound.specs.Roomy.{AreRoomy, AreOpenRoomy, AreNewRoomy, EldestIsRoomy, IsIdleByPlan}
+use Rattle.fleet_bound.specs.Roomy.{AreRoomy, AreOpenRoomy, AreNewRoomy, EldestIsRoomy, HasBound, IsIdleByPlan}
+use Rattle.fleet_bound.proofs.BoundLaws.{bound-empty}
 use Rattle.fleet_bound.proofs.Queues.{fleet-idles}
 use Rattle.fleet_bound.proofs.Roomy.{IsRoomyFor, roomy-unfinished, roomy-tick, head-all, first-all, joined-more}
 use Rattle.fleet_bound.proofs.Runs.{moved_over, legal_at, fits_at, one_on}
@@ -124,3 +125,7 @@ pub roomy-more : {A : Type 0} (m : Floor) (h : History A) (more : List (Entry A)
 roomy-more m h more roomy new r =
     subst (All (IsRoomyFor m (robots h))) (sym (joined-more (onward h more) h.entries more r refl))
     (All-append (IsRoomyFor m (robots h)) (joined h r) (flat_map (accepted_by r) more) (roomy r) (new r))
+
+-- where the opening has no errands, nobody has waited yet
+pub roomy-fresh : {A : Type 0} (m : Floor) (h : History A) → IsInOrder m h.opening → ((r : ℕ) → r < robots h → errands_at h.opening r ≡ []) → AreRoomy m h → HasBound m h
+roomy-fresh m h order empty roomy = record { roomy = roomy; begins = inr (bound-empty m h.opening order empty) }

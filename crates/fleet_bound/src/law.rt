@@ -108,10 +108,12 @@ pub fn open_errands_advance<A>()
 {}
 
 /// A history is roomy if the errands of its opening go to roomy cells, and all that are accepted do. Then those that are
-/// unfinished do.
+/// unfinished do. A roomy history whose opening has no errands has the bound on waits.
 pub fn entries_keep_roomy<A>()
     ensures opening { (m : Floor) (o : Opening A) → AreOpenRoomy m (start o) → AreRoomy m (start o) }
     ensures onward { (m : Floor) (h : History A) (more : List (Entry A)) → AreRoomy m h → AreNewRoomy m (robots h) more →
         AreRoomy m (onward h more) }
     ensures unfinished { (m : Floor) (h : History A) → AreRoomy m h → AreOpenRoomy m h }
+    ensures fresh { (m : Floor) (h : History A) → IsInOrder m h.opening →
+        ((r : ℕ) → r < robots h → errands_at h.opening r ≡ []) → AreRoomy m h → HasBound m h }
 {}
