@@ -3,6 +3,7 @@ A case is dict(words=[..], stdin=bytes, files={name: bytes}, kind=str)."""
 import os
 import json
 import random
+import laws
 import model
 from model import Grid, World, limits
 
@@ -1331,6 +1332,20 @@ def is_ambiguous(case):
         except model.TraceFault:
             pass
     return None
+
+
+def roomy_case(rng):
+    """A run on a map with bridges, whose errands go to cells that are roomy for its robots, and to no others."""
+    goals = []
+    while not goals:
+        rows = floors(rng)
+        m = laws.Map(rows)
+        sg = ScriptGen(rng, Grid.of(rows))
+        goals = sorted(m.roomy(len(sg.starts))) if m.bridges() else []
+    sg.cell = lambda: rng.choice(goals)
+    script = sg.text(sg.header() + sg.events())
+    words = ["run", *["--trace"] * rng.randint(0, 1), "map.txt", "script.txt"]
+    return dict(kind="roomy", words=words, stdin=b"", files={"map.txt": map_text(rng, decorate(rng, rows)), "script.txt": script})
 
 
 def case(rng, ambiguous=False):

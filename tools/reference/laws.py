@@ -7,7 +7,8 @@ as plain JSON data (lists, ints, None).
     out = check_run(m, case, events, replies, trace, lists)  -> [text]
 
 Rules 1 to 8 are those of the judge; the others are names:
-advancing, passes-free-cell, wanders, eldest-advances, tie-order, wait-bound, wait-invariant, arrives-in-turn, idle-within, prefix.
+advancing, passes-free-cell, wanders, eldest-advances, way-ahead, tie-order, wait-bound, wait-invariant, arrives-in-turn, idle-within, prefix.
+Advancing, the bounds and idle-within are asked on maps without bridges, and wherever all errands go to roomy cells.
 """
 
 REFUSED = dict(client_closed=1, no_robot=2, robot_shut=3, no_cell=4, blocked=5,
@@ -29,6 +30,7 @@ class Map:
         self._dist = {}
         self._bridge = {}
         self._bridgeless = None
+        self._sides = {}
         self._span = None
 
     def dirs(self, a):
@@ -87,6 +89,28 @@ class Map:
         if self._bridgeless is None:
             self._bridgeless = not self.bridges()
         return self._bridgeless
+
+    def side(self, a, b):
+        """the cells that are reached from b without the edge from a to b"""
+        if (a, b) not in self._sides:
+            seen, todo = {b}, [b]
+            while todo:
+                u = todo.pop()
+                for v in self.near(u):
+                    if {u, v} != {a, b} and v not in seen:
+                        seen.add(v)
+                        todo.append(v)
+            self._sides[(a, b)] = seen
+        return self._sides[(a, b)]
+
+    def roomy(self, n):
+        """the cells that are roomy for n robots: each side of a bridge that has the cell has n cells"""
+        tight = set()
+        for a, b in self.bridges():
+            for side in (self.side(a, b), self.side(b, a)):
+                if len(side) < n:
+                    tight |= side
+        return self.floor - tight
 
     def span(self):
         """The reach: the most edges that a walk can need, 1 at least."""
@@ -317,6 +341,10 @@ def check_chapter(m, trace, tie_laws=None, world=True, legal_only=False, stats=N
     L = m.span() if not legal_only else 1
     bridgeless = m.bridgeless() if not legal_only else False
     theory = not legal_only
+    roomy = m.roomy(n) if theory else set()
+    # Whether the theorems on waits hold: no bridge, or each errand so far goes to a roomy cell
+    bounded = theory and (bridgeless or all(f[2] in roomy for r in range(n) for f in h.accepted(r)))
+    opened = [True]             # whether the opening is within the bound
     accepted_log = []           # (errand, ticks needed by arrives-in-turn, ticks seen, robot, at)
     nearer_log = []             # for each tick: nearer or not
     run_start = None            # idle-within: (bound, ticks since, all nearer)
@@ -324,8 +352,14 @@ def check_chapter(m, trace, tie_laws=None, world=True, legal_only=False, stats=N
     def t5c_start():
         return [max(len(h.unfinished(r)) for r in range(n)) * n * max(1, len(m.floor) - 1), 0, True]
 
+    def ahead_of(r, ws):
+        return sum(1 for s in range(n) if ws[s] is not None and s != r and (ws[s] > ws[r] or (ws[s] == ws[r] and s < r)))
+
+    def within(r, ws, d):
+        return ws[r] + d + ahead_of(r, ws) * L <= n * L
+
     def t5a(at):
-        if not (theory and bridgeless and world):
+        if not (bounded and world and opened[0]):
             return
         ws = h.waits()
         el = h.eldest()
@@ -336,19 +370,20 @@ def check_chapter(m, trace, tie_laws=None, world=True, legal_only=False, stats=N
         for r in range(n):
             if ws[r] is None:
                 continue
+            if at == 0 and not bridgeless and not (ws[r] < n * L and within(r, ws, d)):
+                opened[0] = False   # an earlier chapter's errands were not roomy
+                return
             if stats is not None:
                 stats["wait"] = max(stats.get("wait", 0), ws[r])
                 if n * L >= 4:
                     stats["wait_share"] = max(stats.get("wait_share", 0.0), ws[r] / (n * L))
             if not ws[r] < n * L:
                 out.append((at, "wait-bound", f"robot {r} waits {ws[r]}, bound {n * L}"))
-            k = sum(1 for s in range(n) if ws[s] is not None and s != r
-                    and (ws[s] > ws[r] or (ws[s] == ws[r] and s < r)))
-            if not ws[r] + d + k * L <= n * L:
-                out.append((at, "wait-invariant", f"robot {r}: {ws[r]} + {d} + {k} * {L} > {n} * {L}"))
+            if not within(r, ws, d):
+                out.append((at, "wait-invariant", f"robot {r}: {ws[r]} + {d} + {ahead_of(r, ws)} * {L} > {n} * {L}"))
 
     t5a(0)
-    if theory and bridgeless:
+    if bounded:
         run_start = t5c_start()
         if run_start[0] == 0 and any(h.front(r) for r in range(n)):
             out.append((0, "idle-within", "bound 0 with a front"))
@@ -362,6 +397,7 @@ def check_chapter(m, trace, tie_laws=None, world=True, legal_only=False, stats=N
             h.add(e)
             if theory and e[3][0] == "accepted":
                 f = h.accepted(e[2][1])[-1]
+                bounded = bounded and (bridgeless or f[2] in roomy)
                 if h.unfinished(e[2][1])[-1] is not f:
                     out.append((at, "place", "accepted errand is not last"))
                 accepted_log.append((f, (f[4] + 1) * n * L, len(nearer_log), e[2][1], at))
@@ -386,8 +422,11 @@ def check_chapter(m, trace, tie_laws=None, world=True, legal_only=False, stats=N
                     nearer = new == old - 1 or (old == 0 and Q[el] == P[el])
                     closer = {d: x for d, x in m.dirs(P[el]).items() if m.dist(x, g) < old}
                     premise = all(x not in P or not m.bridge(P[el], x) for x in closer.values())
-                    if bridgeless and not nearer:
+                    if bounded and not nearer:
                         out.append((at, "advancing", f"eldest {el} {P[el]} to {Q[el]}, goal {g}"))
+                    blocked = any(m.bridge(P[el], x) and m.side(P[el], x) <= set(P) for x in closer.values())
+                    if nearer == blocked:
+                        out.append((at, "way-ahead", f"eldest {el} {P[el]} to {Q[el]}, goal {g}, blocked: {blocked}"))
                     if premise and not nearer:
                         out.append((at, "eldest-advances", f"eldest {el} {P[el]} to {Q[el]}, goal {g}"))
                     if premise and tie_laws is not None:
@@ -432,7 +471,7 @@ def check_chapter(m, trace, tie_laws=None, world=True, legal_only=False, stats=N
             h.add(e)
         # theorems over the state after the entry
         t5a(at)
-        if theory and bridgeless:
+        if bounded:
             if e[0] == "take":
                 run_start = t5c_start()
             elif e[0] == "tick":

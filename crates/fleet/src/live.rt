@@ -6,7 +6,7 @@ use crate::chapters::TraceFolder;
 use crate::ends::complain;
 use crate::figures::{Outlet, figures_of};
 use crate::kept_file::KeptFile;
-use crate::streams::Pipe;
+use crate::streams::{Pipe, Stream};
 use crate::talk::{lent_texts, texts_of};
 use crate::troubles::Troubles;
 use fleet_lib::{
@@ -160,7 +160,7 @@ fn texts_for<R: Files<File = File> + Alloc<A = Global>, E: Write>(
 
 /// Keeps a fleet in real time, or on demand, which goes on from a chapter if one is given. Returns the status, as of
 /// `run_live`, or 3 where a file failed. What is wrong with the words for pipes comes first.
-fn hold_live<
+pub(crate) fn hold_live<
     R: Files<File = File>
         + Alloc<A = Global>
         + Clock
@@ -211,40 +211,52 @@ fn hold_live<
     run_live(rt, lent_texts(&map, &script, kept), live, ends, said)
 }
 
-/// Keeps the fleet of these words, which goes on from a chapter if one is given, with its chapters in the folder that
-/// they name, if they name one. Returns the status.
-pub(crate) fn live_on<
-    R: Files<File = File>
-        + Alloc<A = Global>
-        + Clock
-        + Threads
-        + Sync
-        + Wait
-        + Copy
-        + Send
-        + Drop
-        + 'static,
-    I: Read + Send + Drop + 'static,
-    W: Write + Send + Drop + 'static,
-    E: Write + Copy + Send + Drop + 'static,
->(
-    rt: &R,
-    (live, kept): (&Live, &Option<KeptFile>),
+/// What a fleet in real time is kept with: its streams, where its chapters and figures go, and what notes why one of
+/// them failed.
+pub(crate) struct Kit<'a, I, W, R, E> {
+    pub(crate) troubles: Troubles,
+    pub(crate) talk: (Stream<I, R>, Stream<W, R>),
+    pub(crate) told: (Outlet<E, R>, Option<Outlet<E, R>>),
+    pub(crate) sink: TraceFolder<'a, R, E>,
+}
+
+/// Streams and a sink that note why they fail, and where they note it. The folder of the chapters may have a name.
+type Noted<'a, I, W, R, E> = (
+    Troubles,
+    (Stream<I, R>, Stream<W, R>),
+    TraceFolder<'a, R, E>,
+);
+
+fn noted<'a, R: Files + Alloc<A = Global> + Copy + Drop, I: Drop, W: Drop, E: Write + Drop>(
+    rt: &'a R,
+    folder: Option<&'a str>,
     talk: (I, W),
     error: E,
-) -> Result<u8, AllocError> {
-    let (alloc, mut error) = (rt.alloc(), error);
-    let name = live.traces.as_deref();
-    let troubles = Troubles::new(alloc)?;
+) -> Result<Noted<'a, I, W, R, E>, AllocError> {
+    let troubles = Troubles::new(rt.alloc())?;
     let talk = troubles.streams(rt, talk)?;
-    let sink = TraceFolder::new(rt, name, troubles.folder()?, error);
-    let figures = match figures_of(rt, &live.metrics, &mut error) {
-        Ok(figures) => figures,
-        Err(status) => return Ok(status),
+    let sink = TraceFolder::new(rt, folder, troubles.folder()?, error);
+    Ok((troubles, talk, sink))
+}
+
+/// What the fleet of these words is kept with, its chapters in the folder that they name, if they name one. The error is
+/// the status, and is said.
+pub(crate) fn kit_of<
+    'a,
+    R: Files + Alloc<A = Global> + Copy + Drop,
+    I: Drop,
+    W: Drop,
+    E: Write + Copy + Drop,
+>(rt: &'a R, live: &'a Live, talk: (I, W), error: &mut E) -> Result<Kit<'a, I, W, R, E>, u8> {
+    let (troubles, talk, sink) = match noted(rt, live.traces.as_deref(), talk, *error) {
+        Ok(noted) => noted,
+        Err(AllocError) => return Err(fail(InputFault::NoMemory, error)),
     };
-    let told = (Outlet::Error(error), figures);
-    let mut said = Vec::new(alloc);
-    let status = hold_live(rt, (live, kept), talk, told, (error, &mut said), sink);
-    troubles.tell(alloc, (status, &said), name.unwrap_or(""), &mut error);
-    Ok(status)
+    let figures = figures_of(rt, &live.metrics, error)?;
+    Ok(Kit {
+        troubles,
+        talk,
+        told: (Outlet::Error(*error), figures),
+        sink,
+    })
 }

@@ -35,10 +35,10 @@ use explain::run_explain;
 use fleet_lib::{InputFault, Job, WordFault, fail, parse_words, write_whole};
 use folder::{Start, complain_of_folder, hold_folder, tell_start};
 use judge::run_judge;
-use live::live_on;
+use live::{Kit, hold_live, kit_of};
 use piped::Piped;
 use stats::run_stats;
-use std::alloc::{Alloc, AllocError, Global};
+use std::alloc::{Alloc, Global};
 use std::env::{self, Env};
 use std::fs::Files;
 use std::io::{self, ErrorKind, Write};
@@ -123,9 +123,24 @@ fn main(rt: HostRuntime) -> ExitCode {
                 Ok((folder, kept)) => {
                     tell_start(start, &kept, &mut error);
                     let streams = (rt.stdin(), rt.stdout());
-                    let status = match live_on(&rt, (&live, &kept), streams, error) {
-                        Ok(status) => status,
-                        Err(AllocError) => fail(InputFault::NoMemory, &mut error),
+                    let status = match kit_of(&rt, &live, streams, &mut error) {
+                        Ok(
+                            Kit {
+                                troubles,
+                                talk,
+                                told,
+                                sink,
+                            },
+                        ) => {
+                            let mut said = Vec::new(rt.alloc());
+                            let ends = (error, &mut said);
+                            // Called here, where it is known of the runtime that threads may share it.
+                            let status = hold_live(&rt, (&live, &kept), talk, told, ends, sink);
+                            let folder = name.unwrap_or("");
+                            troubles.tell(rt.alloc(), (status, &said), folder, &mut error);
+                            status
+                        }
+                        Err(status) => status,
                     };
                     drop(folder);
                     status

@@ -18,3 +18,4 @@ pub mod Queues
 pub mod TickCounts
 pub mod Limits
 pub mod Roomy
+pub mod OpenRoomy

@@ -18,7 +18,7 @@ use Rattle.fleet_history.proofs.Reach.{front-reach}
 use Rattle.fleet_pibt.specs.Eldest.{IsEldest}
 use Rattle.fleet_pibt.specs.Order.{ComesBefore}
 use Rattle.fleet_planner.specs.Planned.{waits, goals, goal_of, cell_of}
-use Rattle.fleet_planner.proofs.Lists.{item_of, none_past}
+use Rattle.fleet_planner.proofs.Lists.{item_of}
 use Rattle.fleet_bound.specs.Waiting as waiting
 use Rattle.fleet_bound.specs.Waiting.{Moment, IsWithin, IsBounded}
 use Rattle.fleet_bound.specs.Reach.{reach}

@@ -1,5 +1,5 @@
 -- Planned ticks advance where errands go to roomy cells.
-use Rattle.std.proofs.Common.{◌≡◌, ℕ, ◌+◌, ◌<◌, ◌≤◌, inl, inr, List, [], ◌∷◌, ◌++◌, length, map, get_or, Option, Some, not, sym, refl, ap, subst, ◌∙◌, arith}
+use Rattle.std.proofs.Common.{◌≡◌, ℕ, ◌<◌, ◌≤◌, inl, inr, List, [], ◌∷◌, ◌++◌, length, map, Some, not, sym, ap, subst, ◌∙◌, arith}
 use Rattle.std.specs.Prelude.{slice_index, slice_get, All}
 use Rattle.std.specs.List.{range_with_len, flat_map}
 use Rattle.std.proofs.Math.ListN.{get_or-append}
@@ -14,7 +14,7 @@ use Rattle.fleet_hooks.specs.declared.law.TieLaw.{TieLaw}
 use Rattle.fleet_queue.specs.declared.errand.Errand.{Errand}
 use Rattle.fleet_history.specs.declared.history.Entry.{Entry}
 use Rattle.fleet_history.specs.declared.history.Entry.TheVariants.{Tick}
-use Rattle.fleet_history.specs.History.{History, start, with_entries, robots, place, front, joined, accepted, unfinished, arrivals, is_withdrawn, errands_at, accepted_by}
+use Rattle.fleet_history.specs.History.{History, start, with_entries, robots, place, joined, accepted, unfinished, arrivals, is_withdrawn, errands_at, accepted_by}
 use Rattle.fleet_history.specs.Laws.{EachTick}
 use Rattle.fleet_history.specs.Legal.{IsLegal}
 use Rattle.fleet_history.specs.Next.{next_opening}
@@ -45,15 +45,15 @@ roomy-tick m ties h to legal planned roomy = planned-way m ties (waits h) (goals
         roomy-way m (place h) e g (omega (arith, known, all)) (subst (λ (n : ℕ). IsRoomy (IsNeighbour m) n g) (sym all) room)
 
 -- a robot's unfinished errands go where those that joined its queue go
-abbrev IsRoomyFor : Floor → ℕ → Errand → Type 0
+abbrev pub IsRoomyFor : Floor → ℕ → Errand → Type 0
 IsRoomyFor m n x = IsRoomy (IsNeighbour m) n x.cell
 
-roomy-unfinished : {A : Type 0} (m : Floor) (h : History A) (r : ℕ) → AreRoomy m h → All (IsRoomyFor m (robots h)) (unfinished h r)
+pub roomy-unfinished : {A : Type 0} (m : Floor) (h : History A) (r : ℕ) → AreRoomy m h → All (IsRoomyFor m (robots h)) (unfinished h r)
 roomy-unfinished m h r roomy =
     All-drop (IsRoomyFor m (robots h)) (length (arrivals h r)) (accepted h r)
     (All-filter (λ y. not (is_withdrawn h y)) (IsRoomyFor m (robots h)) (joined h r) (roomy r))
 
-head-all : (P : Errand → Type 0) (xs : List Errand) (x : Errand) → All P xs → slice_get xs 0 ≡ Some x → P x
+pub head-all : (P : Errand → Type 0) (xs : List Errand) (x : Errand) → All P xs → slice_get xs 0 ≡ Some x → P x
 head-all P [] x all e = absurd (cc (e))
 head-all P (y ∷ ys) x all e = let same : y ≡ x = cc (e) in subst P same (all 0 y (omega arith))
 
@@ -61,10 +61,10 @@ head-all P (y ∷ ys) x all e = let same : y ≡ x = cc (e) in subst P same (all
 pub roomy-eldest : {A : Type 0} (m : Floor) (h : History A) → AreRoomy m h → EldestIsRoomy m h
 roomy-eldest m h roomy e x eldest is = head-all (IsRoomyFor m (robots h)) (unfinished h e) x (roomy-unfinished m h e roomy) is
 
-first-all : (P : Errand → Type 0) (xs ys : List Errand) → All P (xs ++ ys) → All P xs
+pub first-all : (P : Errand → Type 0) (xs ys : List Errand) → All P (xs ++ ys) → All P xs
 first-all P xs ys all k d l = subst P (get_or-append xs ys d k l) (all k d (omega (arith, l, length-append xs ys)))
 
-joined-more : {A : Type 0} (h : History A) (before behind : List (Entry A)) (r : ℕ) → h.entries ≡ before ++ behind → joined h r ≡ joined (with_entries h before) r ++ flat_map (accepted_by r) behind
+pub joined-more : {A : Type 0} (h : History A) (before behind : List (Entry A)) (r : ℕ) → h.entries ≡ before ++ behind → joined h r ≡ joined (with_entries h before) r ++ flat_map (accepted_by r) behind
 joined-more h before behind r q =
     ap (λ es. errands_at h.opening r ++ flat_map (accepted_by r) es) q
     ∙ ap (λ xs. errands_at h.opening r ++ xs) (flat_map-append (accepted_by r) before behind)

@@ -32,16 +32,16 @@ run-robots (went {h} g more e run legal fits advancing here same count) = ap rob
 
 module _ {A : Type 0} (m : Floor) (h : History A) where
   -- one more entry, and then the others
-  moved_over : (done : List (Entry A)) (e : Entry A) (rest : List (Entry A)) → done ++ e ∷ rest ≡ (done ++ e ∷ []) ++ rest
+  pub moved_over : (done : List (Entry A)) (e : Entry A) (rest : List (Entry A)) → done ++ e ∷ rest ≡ (done ++ e ∷ []) ++ rest
   moved_over done e rest = sym (append_assoc done (e ∷ []) rest)
 
   behind : (done : List (Entry A)) (e : Entry A) (rest : List (Entry A)) → h.entries ++ (done ++ e ∷ rest) ≡ (h.entries ++ done) ++ e ∷ rest
   behind done e rest = sym (append_assoc h.entries done (e ∷ rest))
 
-  legal_at : (done : List (Entry A)) (e : Entry A) (rest : List (Entry A)) → IsLegal m (onward h (done ++ e ∷ rest)) → IsLegal m (onward h done)
+  pub legal_at : (done : List (Entry A)) (e : Entry A) (rest : List (Entry A)) → IsLegal m (onward h (done ++ e ∷ rest)) → IsLegal m (onward h done)
   legal_at done e rest legal = legal-before m (onward h (done ++ e ∷ rest)) (h.entries ++ done) (e ∷ rest) legal (behind done e rest)
 
-  fits_at : (done : List (Entry A)) (e : Entry A) (rest : List (Entry A)) → IsLegal m (onward h (done ++ e ∷ rest)) → Fits m (onward h done) e
+  pub fits_at : (done : List (Entry A)) (e : Entry A) (rest : List (Entry A)) → IsLegal m (onward h (done ++ e ∷ rest)) → Fits m (onward h done) e
   fits_at done e rest legal = fits-at m (onward h (done ++ e ∷ rest)) (h.entries ++ done) rest e legal (behind done e rest)
 
   advancing_at : (done : List (Entry A)) (e : Entry A) (rest : List (Entry A)) → GoesOn m h (done ++ e ∷ rest) → IsAdvancingEntry m (onward h done) e
@@ -49,7 +49,7 @@ module _ {A : Type 0} (m : Floor) (h : History A) where
   advancing_at done (Tick to arrived farewells) rest goes = goes.advancing done rest to arrived farewells refl
   advancing_at done (Shut robot farewell) rest goes = refl
 
-  one_on : (done : List (Entry A)) (e : Entry A) → onward h (done ++ e ∷ []) ≡ after (onward h done) e
+  pub one_on : (done : List (Entry A)) (e : Entry A) → onward h (done ++ e ∷ []) ≡ after (onward h done) e
   one_on done e = ap (λ (es : List (Entry A)). record { opening = h.opening; entries = es }) (sym (append_assoc h.entries done (e ∷ [])))
 
   module _ (P : Entry A → Type 0) where

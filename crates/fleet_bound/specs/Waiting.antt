@@ -1,6 +1,6 @@
 -- How long robots wait, apart from any world: only waits, distances and arrivals are known here.
 -- A robot waits while it has a front errand. There are n robots, 0 to n - 1, and no distance is above reach.
-use Rattle.std.specs.Prelude.{◌≡◌, ℕ, ◌+◌, ◌*◌, ◌<◌, ◌≤◌, max, ◌⊎◌, Bool, true, false, nat_lt, ◌==◌, ◌&&◌, ◌||◌, Option, Some, None}
+use Rattle.std.specs.Prelude.{◌≡◌, ℕ, ◌+◌, ◌*◌, ◌<◌, ◌≤◌, max, Bool, true, false, nat_lt, ◌==◌, ◌&&◌, ◌||◌, Option, Some, None}
 use Rattle.std.specs.List.{count_by, range_with_len}
 use Rattle.fleet_pibt.specs.Eldest.{IsEldestOf}
 

@@ -1,7 +1,7 @@
 //! After how many ticks a fleet is idle.
 
 ghost use Rattle.std.specs.Prelude.{◌≡◌, ◌≤◌, map};
-ghost use Rattle.fleet_bound.specs.Idle.{longest_queue, idle_within};
+ghost use Rattle.fleet_bound.specs.Idle.{longest_queue, idle_ticks, idle_within};
 
 use fleet_queue::ErrandQueue;
 use std::alloc::Allocator;
@@ -15,6 +15,17 @@ pub fn longest_queue<A: Allocator + Copy>(queues: &[ErrandQueue<A>]) -> usize
         .fold(0, |longest, queue| queue.len().max(longest))
 }
 
+/// The number of ticks after which a fleet without new orders is idle if each tick advances, from the length of its longest
+/// queue (at most 65,536), the number of its robots (at most 512) and the number of the map's floor cells.
+pub fn idle_ticks(longest: usize, robots: usize, floor_count: u32) -> u64
+    requires queued { longest ≤ 65536 }
+    requires few { robots ≤ 512 }
+    ensures { result ≡ idle_ticks longest robots floor_count }
+{
+    let farthest = floor_count.saturating_sub(1).max(1);
+    longest as u64 * robots as u64 * farthest as u64
+}
+
 /// The number of ticks after which a fleet without new orders is idle, from the length of its longest queue (at most
 /// 65,536), the number of its robots (at most 512) and the number of the map's floor cells. `None` on a map with a
 /// bridge.
@@ -26,6 +37,5 @@ pub fn idle_within(longest: usize, robots: usize, floor_count: u32, bridgeless: 
     if !bridgeless {
         return None;
     }
-    let farthest = floor_count.saturating_sub(1).max(1);
-    Some(longest as u64 * robots as u64 * farthest as u64)
+    Some(idle_ticks(longest, robots, floor_count))
 }

@@ -24,7 +24,7 @@ ghost use Rattle.fleet_bound.specs.Bound.{KeepsBound, WaitsAreBounded};
 ghost use Rattle.fleet_bound.specs.Idle.{idle_ticks, longest_after};
 ghost use Rattle.fleet_bound.specs.Onward.{onward, GoesOn};
 ghost use Rattle.fleet_bound.specs.Reach.{IsReach, reach};
-ghost use Rattle.fleet_bound.specs.Roomy.{AreRoomy, EldestIsRoomy, HasBound};
+ghost use Rattle.fleet_bound.specs.Roomy.{AreRoomy, AreOpenRoomy, AreNewRoomy, EldestIsRoomy, HasBound, IsIdleByPlan};
 
 /// The reach of a map is 1, or the greatest distance of two of its cells. It is below the number of floor cells, where
 /// there are two or more.
@@ -95,4 +95,25 @@ pub fn roomy_ticks_advance<A>()
     ensures bridgeless { (m : Floor) (h : History A) → IsBridgeless (IsNeighbour m) → AreRoomy m h }
     ensures bound { (m : Floor) (h : History A) → IsBridgeless (IsNeighbour m) → HasBound m h }
     ensures next { (m : Floor) (h : History A) → AreRoomy m h → AreRoomy m (start (next_opening h)) }
+{}
+
+/// A history goes on by advancing ticks on every map, whatever was done before, if each unfinished errand goes to a roomy
+/// cell and each that is accepted from then on. So each errand arrives within its bound (`errands_arrive`), and a fleet
+/// without new orders is idle after the same number of ticks as on a map without bridges.
+pub fn open_errands_advance<A>()
+    ensures onward { (m : Floor) (ties : List TieLaw) (h : History A) (more : List (Entry A)) → IsLegal m (onward h more) →
+        EachTick (IsPlanned m ties) (onward h more) → AreOpenRoomy m h → AreNewRoomy m (robots h) more → GoesOn m h more }
+    ensures idle { (m : Floor) (ties : List TieLaw) (h : History A) → AreOpenRoomy m h →
+        IsIdleByPlan m ties h (idle_ticks (longest_after h) (robots h) (floor_count m)) }
+{}
+
+/// A history is roomy if the errands of its opening go to roomy cells, and all that are accepted do. Then those that are
+/// unfinished do. A roomy history whose opening has no errands has the bound on waits.
+pub fn entries_keep_roomy<A>()
+    ensures opening { (m : Floor) (o : Opening A) → AreOpenRoomy m (start o) → AreRoomy m (start o) }
+    ensures onward { (m : Floor) (h : History A) (more : List (Entry A)) → AreRoomy m h → AreNewRoomy m (robots h) more →
+        AreRoomy m (onward h more) }
+    ensures unfinished { (m : Floor) (h : History A) → AreRoomy m h → AreOpenRoomy m h }
+    ensures fresh { (m : Floor) (h : History A) → IsInOrder m h.opening →
+        ((r : ℕ) → r < robots h → errands_at h.opening r ≡ []) → AreRoomy m h → HasBound m h }
 {}

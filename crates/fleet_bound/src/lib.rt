@@ -6,4 +6,4 @@ mod idle;
 pub mod law;
 pub mod waiting;
 
-pub use idle::{idle_within, longest_queue};
+pub use idle::{idle_ticks, idle_within, longest_queue};

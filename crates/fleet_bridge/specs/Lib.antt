@@ -1,3 +1,4 @@
 pub mod Bridge
+pub mod Bridges
 pub mod Roominess
 pub mod inside

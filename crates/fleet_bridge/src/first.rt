@@ -110,7 +110,7 @@ fn is_round<A: Allocator + Copy, B: Allocator + Copy>(
 }
 
 /// Whether the edge is a bridge: asks the tree, and searches only where the tree shows no walk around.
-fn is_bridge_by<A: Allocator + Copy, B: Allocator + Copy>(
+pub(crate) fn is_bridge_by<A: Allocator + Copy, B: Allocator + Copy>(
     alloc: A,
     sides: &Sides<'_, B>,
     tree: &Tree<A>,

@@ -6,6 +6,7 @@ mod detours;
 mod first;
 mod growth;
 mod hanging;
+mod listed;
 mod numbers;
 mod places;
 mod preorder;
@@ -17,5 +18,6 @@ mod sides;
 mod tree;
 
 pub use first::first_bridge;
+pub use listed::bridges;
 pub use roomy::roominess;
 pub use search::is_bridge;

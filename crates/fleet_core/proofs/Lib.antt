@@ -16,3 +16,4 @@ pub mod Fronts
 pub mod OpeningRefusals
 pub mod ResumingFacts
 pub mod OpenFacts
+pub mod RoomFacts

@@ -6,3 +6,4 @@ pub mod Stamped
 pub mod Kept
 pub mod Mailboxes
 pub mod Resumed
+pub mod Roomy

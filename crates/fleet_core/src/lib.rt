@@ -17,6 +17,7 @@ mod opening;
 mod queues;
 mod resuming;
 mod robot_hooks;
+mod roomy;
 mod stamps;
 mod tick_draft;
 mod waits;

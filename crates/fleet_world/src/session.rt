@@ -2,8 +2,11 @@
 
 ghost use Rattle.std.specs.Prelude.{◌≡◌, ◌≤◌, ◌<◌, ◌^◌, ◌+◌, ◌↔◌, IfOk, OnOk, OnErr, Err, replicate, length, vec_len};
 ghost use Rattle.fleet_history.specs.History.{clients as client_count, history_of};
+ghost use Rattle.fleet_history.specs.Laws.{EachTick};
 ghost use Rattle.fleet_history.specs.Legal.{IsLegal};
-ghost use Rattle.fleet_bound.specs.Roomy.{AdvancesIfRoomy};
+ghost use Rattle.fleet_planner.specs.Planned.{IsPlanned};
+ghost use Rattle.fleet_bound.specs.Bound.{WaitsAreBounded};
+ghost use Rattle.fleet_bound.specs.Roomy.{AdvancesIfRoomy, HasBound};
 ghost use Rattle.fleet_core.specs.Core.{opened_world, next_world};
 ghost use Rattle.fleet_core.specs.Hooks.{laws_of, AreOrderly};
 ghost use Rattle.fleet_core.specs.Opening.{CanOpen};
@@ -87,7 +90,10 @@ impl<A: Allocator + Copy> Session<A> {
         ensures history { IfOk result (λ chapter. history_of chapter ≡ self.old.world.core.history) }
         ensures number { IfOk result (λ chapter. chapter.number ≡ self.old.world.core.number) }
         ensures legal { OnOk result (IsLegal self.old.world.core.floor self.old.world.core.history) }
+        ensures planned { OnOk result (EachTick (IsPlanned self.old.world.core.floor self.old.world.core.ties) self.old.world.core.history) }
         ensures advancing { OnOk result (AdvancesIfRoomy self.old.world.core.floor self.old.world.core.history) }
+        ensures bounded { OnOk result (HasBound self.old.world.core.floor self.old.world.core.history →
+            WaitsAreBounded self.old.world.core.floor self.old.world.core.history) }
         ensures next { OnOk result (talk_of self.new.world.core self.new.waiting.items ≡ next_talk (talk_of self.old.world.core self.old.waiting.items)) }
         ensures err { OnErr result (talk_of self.new.world.core self.new.waiting.items ≡ talk_of self.old.world.core self.old.waiting.items) }
     {
@@ -100,7 +106,9 @@ impl<A: Allocator + Copy> Session<A> {
         ensures history { history_of result.1 ≡ self.world.core.history }
         ensures number { result.1.number ≡ self.world.core.number }
         ensures legal { IsLegal self.world.core.floor self.world.core.history }
+        ensures planned { EachTick (IsPlanned self.world.core.floor self.world.core.ties) self.world.core.history }
         ensures advancing { AdvancesIfRoomy self.world.core.floor self.world.core.history }
+        ensures bounded { HasBound self.world.core.floor self.world.core.history → WaitsAreBounded self.world.core.floor self.world.core.history }
     {
         let Session { world, waiting: _ } = self;
         world.finish()

@@ -78,7 +78,7 @@ fn first_by_search(rt: &impl Abort, alloc: Global, grid: &Grid) -> Option<(u32, 
 }
 
 /// The letters of a map: each cell is given by one bit of the number.
-fn drawn(rt: &impl Abort, alloc: Global, count: u32, mut bits: u32) -> Vec<u8> {
+pub(crate) fn drawn(rt: &impl Abort, alloc: Global, count: u32, mut bits: u32) -> Vec<u8> {
     let mut cells = Vec::new(alloc);
     for _ in 0..count {
         cells
@@ -96,7 +96,7 @@ fn is_as_searched(rt: &impl Abort, alloc: Global, height: u32, width: u32, cells
 }
 
 /// The sides of small maps, how many cells they have, and how many such maps there are.
-const SIDES: [(u32, u32, u32, u32); 4] = [
+pub(crate) const SIDES: [(u32, u32, u32, u32); 4] = [
     (3, 3, 9, 512),
     (2, 5, 10, 1024),
     (1, 4, 4, 16),

@@ -3,6 +3,8 @@
 #![tactic(auto)]
 
 #[cfg(test)]
+mod all_bridges;
+#[cfg(test)]
 mod bridges;
 #[cfg(test)]
 mod checks;

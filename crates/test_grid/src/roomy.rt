@@ -123,7 +123,7 @@ fn by_definition(rt: &impl Abort, alloc: Global, grid: &Grid) -> Vec<u32> {
 }
 
 /// A random map of at most eight rows and columns, with none to half of its cells walls.
-fn random_map(rt: &impl Abort, alloc: Global, random: &mut Random) -> Grid {
+pub(crate) fn random_map(rt: &impl Abort, alloc: Global, random: &mut Random) -> Grid {
     let height = random.below(8) + 1;
     let width = random.below(8) + 1;
     let walls = random.below(6) * 10;
@@ -139,7 +139,7 @@ fn random_map(rt: &impl Abort, alloc: Global, random: &mut Random) -> Grid {
 }
 
 #[test]
-fn random_maps_beside_the_definition(rt: HostRuntime) {
+pub(crate) fn random_maps_beside_the_definition(rt: HostRuntime) {
     let mut random = Random::from_seed(76);
     for _ in 0..5000 {
         let grid = random_map(&rt, rt.alloc(), &mut random);

@@ -1,6 +1,6 @@
 //! Plain calls that succeed.
 
-use fleet_bound::{idle_within, longest_queue};
+use fleet_bound::{idle_ticks, idle_within, longest_queue};
 use fleet_queue::{Errand, ErrandQueue};
 use std::alloc::Global;
 use std::process::Abort;
@@ -34,6 +34,7 @@ fn longest_of_three_queues(rt: HostRuntime) {
 fn ring_of_eight(rt: HostRuntime) {
     assert!(rt; idle_within(2, 2, 8, true) == Some(28));
     assert!(rt; idle_within(0, 2, 8, true) == Some(0));
+    assert!(rt; idle_ticks(2, 2, 8) == 28);
 }
 
 #[test]

@@ -22,6 +22,8 @@ mod planted;
 #[cfg(test)]
 mod reopened;
 #[cfg(test)]
+mod roomy;
+#[cfg(test)]
 mod schedules;
 #[cfg(test)]
 mod texts;

@@ -1,15 +1,9 @@
 -- The ticks of a bridgeless map, and none on others.
-use Rattle.std.proofs.Common.{arith, ◌≡◌, ◌∙◌, ◌-◌, ℕ, max, ap, refl}
+use Rattle.std.proofs.Common.{refl}
 use Rattle.fleet_bound.proofs.idle.idle_within.Goals as goal
-
-turned : (n : ℕ) → max (n - 1) 1 ≡ max 1 (n - 1)
-turned n = omega arith
 
 pub returns-then-not-bridgeless : goal.returns-then-not-bridgeless
 returns-then-not-bridgeless c = rw c.if-not-bridgeless.true refl
 
 pub returns : goal.returns
-returns c =
-    let farthest : c.max-farthest.result ≡ max 1 (c.args.floor_count - 1) =
-    c.max-farthest.ensures ∙ ap (λ (n : ℕ). max n 1) c.saturating_sub.ensures ∙ turned c.args.floor_count in
-    rw (c.if-not-bridgeless.false, farthest) refl
+returns c = rw (c.if-not-bridgeless.false, c.idle_ticks.ensures) refl

@@ -1,4 +1,4 @@
-use Rattle.std.proofs.Common.{arith, ◌≡◌, ◌∙◌, refl}
+use Rattle.std.proofs.Common.{arith, ◌≡◌}
 use Rattle.fleet_grid.specs.Counts.{floor_count}
 use Rattle.fleet_grid.specs.Floor.{IsNeighbour}
 use Rattle.fleet_grid.specs.Walk.{IsBridgeless}
