@@ -1,5 +1,5 @@
 -- A conversation whose fleet goes on from a chapter that was kept.
-use Rattle.std.specs.Prelude.{◌≡◌, ℕ, ◌<◌, All, Contains, Bool, false, not, ◌==◌, nat_lt, List, ◌++◌, length, Option, Some, None, Result, Ok, Err, IfOk, unwrap_or, if◌then◌else◌}
+use Rattle.std.specs.Prelude.{◌≡◌, ℕ, ◌<◌, All, Contains, Bool, true, false, not, ◌==◌, nat_lt, List, ◌++◌, length, Option, Some, None, Result, Ok, Err, IfOk, unwrap_or, if◌then◌else◌}
 use Rattle.std.specs.List.{list_any}
 use Rattle.std.specs.Option.{option_map}
 use Rattle.std.specs.declared.alloc.AllocError.{AllocError}
