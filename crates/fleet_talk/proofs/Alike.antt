@@ -1,11 +1,13 @@
 -- A script in form, held as a conversation, is a run of it.
-use Rattle.std.proofs.Common.{◌≡◌, ◌∙◌, ℕ, Bool, true, false, List, [], ◌++◌, map, Option, Some, None, Ok, IfSome, is_some, unwrap_or, refl, sym, ap, subst}
+use Rattle.std.proofs.Common.{◌≡◌, ◌∙◌, ℕ, inl, inr, true≢false, Bool, true, false, List, [], ◌++◌, map, Option, Some, None, Ok, IfSome, is_some, unwrap_or, refl, sym, ap, subst}
 use Rattle.std.specs.List.{list_any}
 use Rattle.std.specs.declared.alloc.Global.{Global}
+use Rattle.std.proofs.lemmas.Bool.{cases_Bool}
 use Rattle.std.proofs.lemmas.Option.{same_Some}
 use Rattle.fleet_grid.specs.Floor.{Floor}
 use Rattle.fleet_book.specs.declared.limits.Limits.{Limits}
 use Rattle.fleet_core.specs.Hooks.{HookLaws}
+use Rattle.fleet_roomy.specs.Unroomy.{has}
 use Rattle.fleet_script.specs.Script.{Draft, Plan, blank_draft, limits_of, script_of}
 use Rattle.fleet_world.specs.declared.reply.Reply.{Reply}
 use Rattle.fleet_world.specs.Run.{State, Run, opened_state}
@@ -14,7 +16,7 @@ use Rattle.fleet_text.specs.Output.{is_limit_met, run_text}
 use Rattle.fleet_talk.specs.Act.{Act, play}
 use Rattle.fleet_talk.specs.Acts.{Talks}
 use Rattle.fleet_talk.specs.Chapters.{ChapterView}
-use Rattle.fleet_talk.specs.Conversation.{IsConversation, unopened, talked, MayOpen, NamesLimits, plain_terms, head_in, opened as opened_fleet, acts_of, clients_in, limits_in, laws_in}
+use Rattle.fleet_talk.specs.Conversation.{IsConversation, Refuses, unopened, talked, MayOpen, NamesLimits, plain_terms, head_in, opened as opened_fleet, acts_of, clients_in, limits_in, laws_in}
 use Rattle.fleet_talk.specs.Fleet.{Fleet}
 use Rattle.fleet_talk.specs.Heard.{AreShort, Head, Opening, all_of, heard_lines}
 use Rattle.fleet_talk.proofs.Runs.{said-run}

@@ -31,7 +31,7 @@ use Rattle.fleet_talk.specs.Conversation.{KeptChapters, Terms}
 use Rattle.fleet_talk.specs.Ending.{Keeps, Finishes, written, unwritten}
 use Rattle.fleet_talk.specs.Fleet.{Fleet, opened_fleet}
 use Rattle.fleet_talk.specs.Heard.{IsNext, heard_lines}
-use Rattle.fleet_talk.specs.Resumed.{ComesOpen, IsAnswered, IsAnsweredInPart, IsResumeFault, IsResumption, IsResumptionBegun, MayResume, disagreement, is_other, laws_after, limits_after, resumed}
+use Rattle.fleet_talk.specs.Resumed.{ComesOpen, IsAnswered, IsAnsweredInPart, IsResumeFault, IsResumption, IsResumptionBegun, LetsIn, MayResume, disagreement, is_other, laws_after, limits_after, resumed}
 use Rattle.fleet_talk.specs.Talked.{TalksUntil}
 use Rattle.fleet_talk.proofs.Breaking.{until-none}
 use Rattle.fleet_talk.proofs.Finishing.{written_all, written_part, written_none, take_none, err, same_err, whole_prefix}

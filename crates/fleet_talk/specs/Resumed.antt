@@ -1,6 +1,6 @@
 -- A conversation whose fleet goes on from a chapter that was kept.
-use Rattle.std.specs.Prelude.{◌≡◌, ℕ, ◌<◌, All, Contains, Bool, true, false, not, ◌==◌, nat_lt, List, ◌++◌, length, Option, Some, None, Result, Ok, Err, IfOk, unwrap_or, if◌then◌else◌}
-use Rattle.std.specs.List.{list_any}
+use Rattle.std.specs.Prelude.{◌≡◌, ℕ, ◌<◌, Contains, Bool, true, false, not, ◌==◌, nat_lt, List, ◌++◌, length, Option, Some, None, Result, Ok, Err, IfOk, unwrap_or, if◌then◌else◌}
+use Rattle.std.specs.List.{list_any, position}
 use Rattle.std.specs.Option.{option_map}
 use Rattle.std.specs.declared.alloc.AllocError.{AllocError}
 use Rattle.std.specs.declared.alloc.Global.{Global}
@@ -76,7 +76,7 @@ resumed kit m d c = quiet_talk (world_after kit m d c)
 
 -- no errand in a queue goes to one of these cells
 abbrev pub NoneWaits : {A : Type 0} → List Bool → World A → Type 0
-NoneWaits cells w = (client : ℕ) → client < clients w.history → All (λ (e : OpenErrand). has cells e.cell ≡ false) (open_errands w.history client)
+NoneWaits cells w = (client : ℕ) → client < clients w.history → position (λ e. has cells e.cell) (open_errands w.history client) ≡ None
 
 -- an errand of this client is in this robot's queue, and goes to this cell
 pub record Waits {A : Type 0} (w : World A) (x : UnroomyErrand) : Type 0 where

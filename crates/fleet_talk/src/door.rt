@@ -1,7 +1,7 @@
 //! To which cells posts are refused.
 
-ghost use Rattle.std.specs.Prelude.{◌≡◌, ◌<◌, ◌^◌, All, Bool, Contains, List, None, ℕ, true, false, count_by, IfOk, IfSome, string_bytes};
-ghost use Rattle.fleet_core.specs.OpenErrands.{open_errands};
+ghost use Rattle.std.specs.Prelude.{◌≡◌, ◌<◌, ◌^◌, Bool, List, None, ℕ, true, count_by, IfOk, IfSome, string_bytes};
+ghost use Rattle.std.specs.List.{position};
 ghost use Rattle.fleet_grid.specs.Counts.{floor_count};
 ghost use Rattle.fleet_roomy.specs.Unroomy.{AreUnroomy, has};
 ghost use Rattle.fleet_talk.specs.Door.{AreRefused, event_let_in, let_in, line_let_in, order_let_in, refused_post_text, unroomy_line};
@@ -142,18 +142,11 @@ pub(crate) fn refused_post_text(
     no_room_line(alloc, client)
 }
 
-/// The first of these errands of a client whose cell is one of these.
-fn first_among(
-    cells: &UnroomyCells,
-    client: u32,
-    errands: &[OpenErrand],
-) -> Option<UnroomyErrand> {
-    let found = errands.iter().find(|errand| cells.has(errand.cell))?;
-    Some(UnroomyErrand {
-        client,
-        robot: found.robot,
-        cell: found.cell,
-    })
+/// The place of the first of these errands whose cell is one of these.
+fn first_among(cells: &UnroomyCells, errands: &[OpenErrand]) -> Option<usize>
+    ensures { result ≡ position (λ e. has cells.now.marks.items e.cell) errands.now }
+{
+    errands.iter().position(|errand| cells.has(errand.cell))
 }
 
 /// The first errand in the queues of a world that goes to one of these cells: by client, then by robot. `AllocError` if
@@ -171,8 +164,15 @@ pub fn unroomy_errand(
     };
     for client in 0..clients {
         let errands = world.open_errands(alloc, client)?;
-        match first_among(cells, client, &errands) {
-            Some(found) => return Ok(Some(found)),
+        match first_among(cells, &errands) {
+            Some(place) => {
+                let OpenErrand { robot, cell, .. } = errands[place];
+                return Ok(Some(UnroomyErrand {
+                    client,
+                    robot,
+                    cell,
+                }));
+            }
             None => {}
         }
     }
