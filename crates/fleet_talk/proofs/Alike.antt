@@ -73,16 +73,16 @@ script-run kit m bytes text chapters met plan read short named conv = by conv
       | inr e ↦ e
     ]
 
-    begins : {cells : List Bool} → Heads false cells blank_draft 1 (heard_lines bytes) plan → (head_in (plain_terms kit m) bytes).opening ≡ None → text ≡ all_of (head_in (plain_terms kit m) bytes).said → met ≡ false
+    begins : (cells : List Bool) (free : (c : ℕ) → has cells c ≡ false) → Heads false cells free blank_draft 1 (heard_lines bytes) plan → (head_in (plain_terms kit m) bytes).opening ≡ None → text ≡ all_of (head_in (plain_terms kit m) bytes).said → met ≡ false
         → IsRunOf m plan text met plan.starts plan.clients plan.limits (chosen_laws kit plan)
-    begins (silent is none) at said unmet = silent_run m plan text met (chosen_laws kit plan) none (said ∙ ap (λ (h : Head). all_of h.said) is) unmet
-    begins (opened o is starts of acts) at said unmet = absurd (at_none o (head_in (plain_terms kit m) bytes).opening at (ap (λ (h : Head). h.opening) is))
+    begins cells free (silent is none) at said unmet = silent_run m plan text met (chosen_laws kit plan) none (said ∙ ap (λ (h : Head). all_of h.said) is) unmet
+    begins cells free (opened o is starts of acts) at said unmet = absurd (at_none o (head_in (plain_terms kit m) bytes).opening at (ap (λ (h : Head). h.opening) is))
 
-    talks_on : (o2 : Opening) → (head_in (plain_terms kit m) bytes).opening ≡ Some o2 → MayOpen (plain_terms kit m) o2 → (cells : List Bool) → (answers : List ℕ) (last : Fleet Global)
+    talks_on : (o2 : Opening) → (head_in (plain_terms kit m) bytes).opening ≡ Some o2 → MayOpen (plain_terms kit m) o2 → (cells : List Bool) (free : (c : ℕ) → has cells c ≡ false) → (answers : List ℕ) (last : Fleet Global)
         → Talks false (opened_fleet (plain_terms kit m) o2) (acts_of (plain_terms kit m) cells o2) answers last → text ≡ all_of (head_in (plain_terms kit m) bytes).said ++ answers → met ≡ last.met
-        → Heads false cells blank_draft 1 (heard_lines bytes) plan → IsRunOf m plan text met plan.starts plan.clients plan.limits (chosen_laws kit plan)
-    talks_on o2 at may cells answers last talks said limited (silent is none) = absurd (at_none o2 (head_in (plain_terms kit m) bytes).opening (ap (λ (h : Head). h.opening) is) at)
-    talks_on o2 at may cells answers last talks said limited (opened o is starts of acts) =
+        → Heads false cells free blank_draft 1 (heard_lines bytes) plan → IsRunOf m plan text met plan.starts plan.clients plan.limits (chosen_laws kit plan)
+    talks_on o2 at may cells free answers last talks said limited (silent is none) = absurd (at_none o2 (head_in (plain_terms kit m) bytes).opening (ap (λ (h : Head). h.opening) is) at)
+    talks_on o2 at may cells free answers last talks said limited (opened o is starts of acts) =
         let same : o2 ≡ o = same_Some o2 o (sym at ∙ ap (λ (h : Head). h.opening) is) in
         let names = subst (λ (k : Option Opening). IfSome k (λ o. NamesLimits o.head)) (ap (λ (h : Head). h.opening) is) named in
         let told : text ≡ answers = said ∙ ap (λ (h : Head). all_of h.said ++ answers) is in
@@ -92,6 +92,6 @@ script-run kit m bytes text chapters met plan read short named conv = by conv
         (subst (λ (t : List ℕ). IsRunOf m plan t last.met plan.starts plan.clients plan.limits (chosen_laws kit plan)) (sym told) (talked_run kit m plan answers o last starts of names may2 cells acts talks2))
 
     by : IsConversation (plain_terms kit m) bytes text chapters met → IsRunOf m plan text met plan.starts plan.clients plan.limits (chosen_laws kit plan)
-    by (unopened at said kept unmet) = begins (heard_script false [] (λ c. refl) bytes plan short read) at said unmet
+    by (unopened at said kept unmet) = begins [] (λ c. refl) (heard_script false [] (λ c. refl) bytes plan short read) at said unmet
     by (talked o at may cells refuses answers last talks said kept limited) =
-        talks_on o at may cells answers last talks said limited (heard_script false cells (none_refused o cells refuses) bytes plan short read)
+        talks_on o at may cells (none_refused o cells refuses) answers last talks said limited (heard_script false cells (none_refused o cells refuses) bytes plan short read)

@@ -1,5 +1,5 @@
 -- A conversation whose fleet goes on from a chapter that was kept.
-use Rattle.std.specs.Prelude.{◌≡◌, ℕ, ◌<◌, Contains, Bool, true, false, not, ◌==◌, nat_lt, List, ◌++◌, length, Option, Some, None, Result, Ok, Err, IfOk, unwrap_or, if◌then◌else◌}
+use Rattle.std.specs.Prelude.{◌≡◌, ℕ, ◌<◌, Contains, Bool, true, false, not, ◌==◌, nat_lt, List, ◌++◌, length, Option, Some, None, Result, Ok, Err, unwrap_or, if◌then◌else◌}
 use Rattle.std.specs.List.{list_any, position}
 use Rattle.std.specs.Option.{option_map}
 use Rattle.std.specs.declared.alloc.AllocError.{AllocError}
@@ -87,15 +87,15 @@ pub record Waits {A : Type 0} (w : World A) (x : UnroomyErrand) : Type 0 where
 
 -- why there is no door to this world: such an errand. Out of memory says nothing
 abbrev pub IsDoorFault : {A : Type 0} → World A → Result Door AllocError → ResumeFault → Type 0
-IsDoorFault w door (fault.Errand x) = IfOk door (λ d. Waits w x × (has d.refused.marks.items x.cell ≡ true))
+IsDoorFault w door (fault.Errand x) = (d : Door) × (door ≡ Ok d) × Waits w x × (has d.refused.marks.items x.cell ≡ true)
 IsDoorFault w door (fault.Chapter reopen_fault.NoMemory) = Unit {0}
 IsDoorFault w door other = ⊥
 
--- and that is not roomy for the fleet's robots
-pub record WaitsUnroomy {A : Type 0} (w : World A) (x : UnroomyErrand) : Type 0 where
+-- and that is not roomy for n robots
+pub record WaitsUnroomy {A : Type 0} (n : ℕ) (w : World A) (x : UnroomyErrand) : Type 0 where
   pub waits : Waits w x
   pub floor : IsFloor w.floor x.cell
-  pub unroomy : IsRoomy (IsNeighbour w.floor) (robots w.history) x.cell → ⊥
+  pub unroomy : IsRoomy (IsNeighbour w.floor) n x.cell → ⊥
 
 -- a fleet goes on from the chapter
 pub record MayResume {A : Type 0} (kit : KitLaws) (m : Floor) (d : Draft) (c : ChapterView A) : Type 0 where
@@ -109,7 +109,7 @@ IsResumeFault kit m d c fault.Clients = disagreement d c.history.opening ≡ Som
 IsResumeFault kit m d c (fault.Chapter reopen_fault.NoMemory) = Unit {0}
 IsResumeFault kit m d c (fault.Chapter why) =
     (disagreement d c.history.opening ≡ None) × IsReopenFault m c.number c.history (limits_after d c.history.opening) (laws_after kit d c.history.opening) why
-IsResumeFault kit m d c (fault.Errand x) = MayResume kit m d c × WaitsUnroomy (world_after kit m d c) x
+IsResumeFault kit m d c (fault.Errand x) = MayResume kit m d c × WaitsUnroomy (robots c.history) (world_after kit m d c) x
 IsResumeFault kit m d c (fault.Talk why) = ⊥
 
 -- the fault came before the first line was read

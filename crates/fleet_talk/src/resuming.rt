@@ -1,6 +1,6 @@
 //! A fleet that goes on from a chapter that was kept.
 
-ghost use Rattle.std.specs.Prelude.{◌≡◌, ◌≤◌, None, Ok, Err, true, IfOk, IfErr, OnOk, length, vec_len, if◌then◌else◌, unwrap_or};
+ghost use Rattle.std.specs.Prelude.{◌≡◌, ◌≤◌, None, Ok, IfOk, IfErr, OnOk, length, vec_len, if◌then◌else◌, unwrap_or};
 ghost use Rattle.std.specs.Option.{option_map};
 ghost use Rattle.fleet_text.specs.Kit.{kit_laws};
 ghost use Rattle.fleet_core.specs.Hooks.{laws_of};
@@ -173,7 +173,6 @@ pub fn world_with_door(
     ensures may { OnOk result (MayResume (kit_laws ground.kit) ground.grid (drafted ground.head) (chapter_shown chapter.now)) }
     ensures door { IfOk result (λ r. LetsIn (record { kit = kit_laws ground.kit; floor = ground.grid; settings = settings; head = drafted ground.head }) (chapter_shown chapter.now) r.1.refused.marks.items) }
     ensures fault { IfErr result (λ fault. IsResumeFault (kit_laws ground.kit) ground.grid (drafted ground.head) (chapter_shown chapter.now) fault) }
-    ensures roomy { (x : UnroomyErrand) → result ≡ Err (ResumeFault.Errand x) → settings.roomy ≡ true }
 {
     let door = door_for(
         alloc,
@@ -223,7 +222,6 @@ pub(crate) fn reopen(
     ensures may { OnOk result (MayResume (kit_laws ground.kit) ground.grid (drafted ground.head) (chapter_shown chapter.now)) }
     ensures door { IfOk result (λ r. LetsIn (record { kit = kit_laws ground.kit; floor = ground.grid; settings = settings; head = drafted ground.head }) (chapter_shown chapter.now) r.1.refused.marks.items) }
     ensures fault { IfErr result (λ fault. IsResumeFault (kit_laws ground.kit) ground.grid (drafted ground.head) (chapter_shown chapter.now) fault) }
-    ensures roomy { (x : UnroomyErrand) → result ≡ Err (ResumeFault.Errand x) → settings.roomy ≡ true }
 {
     match world_with_door(alloc, ground, chapter, settings) {
         Ok((world, door)) => Ok((Session::over(alloc, world)?, door)),

@@ -1,6 +1,6 @@
 //! A conversation whose fleet goes on from a chapter.
 
-ghost use Rattle.std.specs.Prelude.{◌≡◌, ◌≤◌, ℕ, List, Err, true, OnOk, IfOk, IfErr, IfSome, vec_len};
+ghost use Rattle.std.specs.Prelude.{◌≡◌, ◌≤◌, ℕ, List, Err, OnOk, IfOk, IfErr, IfSome, vec_len};
 ghost use Rattle.std.specs.Io.Buffered.{reader_buffer, reader_remaining};
 ghost use Rattle.std.specs.Io.KnownBytes.{Appends};
 ghost use Rattle.std.specs.declared.alloc.Global.{Global};
@@ -21,7 +21,6 @@ ghost use Rattle.fleet_talk.specs.Says.{Says};
 ghost use Rattle.fleet_talk.specs.Talked.{TalksUntil};
 
 use crate::conversation::{close, end};
-use crate::door::UnroomyErrand;
 use crate::ends::{ChapterSink, Ends, Settings};
 use crate::fault::TalkFault;
 use crate::going::{Entrance, go_on};
@@ -143,8 +142,6 @@ pub fn resume<R: Alloc<A = Global>, I: Read, W: Write, S: ChapterSink>(
         × Adds (S.kept ends.old.sink) (S.kept ends.new.sink) chapters)) }
     // No fleet goes on from the chapter, for this reason.
     ensures refused { IfErr result (λ fault. IsRefusal fault → IsResumeFault (kit_laws ground.kit) ground.grid (drafted ground.head) (chapter_shown chapter) fault) }
-    // For an errand only where such errands are refused.
-    ensures roomy { (x : UnroomyErrand) → result ≡ Err (ResumeFault.Errand x) → settings.roomy ≡ true }
     // Then no line was read, and nothing written or kept.
     ensures untouched { IfErr result (λ fault. IsRefusal fault → ends.new ≡ ends.old) }
     // A line could not be read, a chapter not kept, or memory ran out: all that was said until then was written.

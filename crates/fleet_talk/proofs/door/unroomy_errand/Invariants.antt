@@ -6,4 +6,4 @@ use Rattle.fleet_roomy.specs.Unroomy.{has}
 use Rattle.fleet_talk.proofs.door.unroomy_errand.Given as goal
 
 abbrev pub invariant-loop-client : goal.invariant-loop-client
-invariant-loop-client g l = (c : ℕ) → c < l.client → position (λ e. has l.cells.now.marks.items e.cell) (open_errands l.world.core.history c) ≡ None
+invariant-loop-client g l = (c : ℕ) → c < l.client → position (λ e. has l.cells.marks.items e.cell) (open_errands l.world.core.history c) ≡ None
