@@ -69,7 +69,10 @@ impl fmt::Display for ResumeText {
                     robot,
                     cell,
                 } = errand;
-                return write!(f, "an errand of client {client} for robot {robot} goes to cell {cell}, which is not roomy");
+                return write!(
+                    f,
+                    "an errand of client {client} for robot {robot} goes to cell {cell}, which is not roomy"
+                );
             }
             ResumeFault::Robots => "the header lines name another number of robots",
             ResumeFault::Clients => "the header lines name another number of clients",

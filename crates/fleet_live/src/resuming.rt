@@ -15,9 +15,7 @@ use crate::serving::{Site, counted, shared_door};
 use fleet_core::World;
 use fleet_history::Chapter;
 use fleet_office::{Desk, Office, OfficeName};
-use fleet_talk::{
-    ChapterSink, Door, Ground, ResumeFault, Settings, TalkFault, world_with_door,
-};
+use fleet_talk::{ChapterSink, Door, Ground, ResumeFault, Settings, TalkFault, world_with_door};
 use live_parts::{LiveEnds, LiveSettings, taken_before};
 use std::alloc::{Alloc, AllocError, Global};
 use std::io::{Read, Write};

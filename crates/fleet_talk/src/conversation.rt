@@ -22,9 +22,9 @@ ghost use Rattle.fleet_talk.specs.Ending.{Finishes, Keeps};
 ghost use Rattle.fleet_talk.specs.Heading.{drafted};
 ghost use Rattle.fleet_talk.specs.Refusals.{talk_fault};
 
+use crate::door::{Door, door_for};
 use crate::ends::{ChapterSink, Ends, Settings};
 use crate::fault::TalkFault;
-use crate::door::{Door, door_for};
 use crate::going::{Entrance, go_on};
 use crate::ground::{Ground, TALK_LIMITS};
 use crate::heading::hear_head;
@@ -100,10 +100,7 @@ fn open_with_door(
 }
 
 /// A fleet and its door, unless memory ran out for the door.
-fn with_door(
-    session: Session,
-    door: Result<Door, AllocError>,
-) -> Result<(Session, Door), OpenFault>
+fn with_door(session: Session, door: Result<Door, AllocError>) -> Result<(Session, Door), OpenFault>
     // Of each call: only a call with a condition may hand on closures.
     requires { 0 ≤ session.world.core.number }
     ensures session { IfOk result (λ r. talk r.0 ≡ talk session) }

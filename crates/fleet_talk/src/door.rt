@@ -40,12 +40,7 @@ pub struct UnroomyErrand {
 
 /// The door of a fleet of this many robots. If `roomy`, posts to cells that are not roomy for them are refused, and
 /// else no post. `AllocError` if memory runs out.
-pub fn door_for(
-    alloc: Global,
-    roomy: bool,
-    grid: &Grid,
-    robots: usize,
-) -> Result<Door, AllocError>
+pub fn door_for(alloc: Global, roomy: bool, grid: &Grid, robots: usize) -> Result<Door, AllocError>
     ensures refused { IfOk result (λ door. robots < 2 ^ 32 → AreRefused roomy grid.now robots door.refused.marks.items) }
     ensures unroomy { IfOk result (λ door. (cells : List Bool) × (robots < 2 ^ 32 → AreUnroomy grid.now robots cells) × (door.unroomy ≡ count_by (λ is_one. is_one) cells)) }
     ensures floor { IfOk result (λ door. door.floor ≡ floor_count grid.now) }
@@ -72,7 +67,9 @@ pub fn unroomy_line(alloc: Global, door: &Door) -> Result<String, AllocError>
     ensures { IfOk result (λ line. string_bytes line ≡ unroomy_line door.now.unroomy door.now.floor door.now.robots) }
 {
     let (unroomy, floor, robots) = (door.unroomy, door.floor, door.robots);
-    format!(in alloc; "fleet: {unroomy} of {floor} cells are not roomy for {robots} robots: errands there may block the fleet for ever\n")
+    format!(in alloc;
+        "fleet: {unroomy} of {floor} cells are not roomy for {robots} robots: errands there may block the fleet for ever\n"
+    )
 }
 
 /// What a post asks of a fleet that refuses posts to these cells.
@@ -97,11 +94,8 @@ fn event_let_in(cells: &UnroomyCells, more: Repeat) -> Asked
 {
     match more.event {
         Event::Post(client, order) => order_let_in(cells, more, client, order),
-        Event::Take(_)
-        | Event::Tick
-        | Event::Give(_)
-        | Event::Collect(_)
-        | Event::Shut(_) => Asked::Events(more),
+        Event::Take(_) | Event::Tick | Event::Give(_) | Event::Collect(_) | Event::Shut(_) =>
+            Asked::Events(more),
     }
 }
 

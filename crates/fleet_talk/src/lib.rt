@@ -34,5 +34,7 @@ pub use heading::read_head;
 pub use input_line::{LineFault, read_line};
 pub use law::{a_conversation_is_a_run, a_head_is_by_its_lines, a_script_is_a_run};
 pub use marks::add_marked;
-pub use resuming::{ResumeFault, disagreement, hooks_after, limits_after, world_after, world_with_door};
+pub use resuming::{
+    ResumeFault, disagreement, hooks_after, limits_after, world_after, world_with_door,
+};
 pub use resumption::resume;

@@ -154,11 +154,7 @@ fn tell_case<R: Alloc<A = Global> + Clock + Threads + Sync + Wait + Copy + Send 
     let ends = ends_of(alloc, rt, hands, case, output, sink)?;
     let words = words(alloc, case)?;
     let texts = TalkTexts {
-        map: if case.has(b"+ map stub") {
-            STUB
-        } else {
-            MAP
-        },
+        map: if case.has(b"+ map stub") { STUB } else { MAP },
         script: short(&script),
         kept: case.kept(),
     };
