@@ -1,0 +1,12 @@
+-- The cells of a map that are not roomy for a fleet.
+use Rattle.std.specs.Prelude.{◌≡◌, ◌↔◌, ℕ, Bool, true, false, List, slice_get, unwrap_or}
+use Rattle.fleet_grid.specs.Floor.{Floor, IsFloor, IsNeighbour}
+use Rattle.fleet_grid.specs.Walk.{IsRoomy}
+
+-- whether a cell is one of these
+abbrev pub has : List Bool → ℕ → Bool
+has cells c = unwrap_or (slice_get cells c) false
+
+-- these are the floor cells that are not roomy for n robots
+pub record AreUnroomy (m : Floor) (n : ℕ) (cells : List Bool) : Type 0 where
+  pub exact : (c : ℕ) → (has cells c ≡ true) ↔ (IsFloor m c × (IsRoomy (IsNeighbour m) n c → ⊥))
