@@ -2,8 +2,8 @@
 //! map, with `--svg` a moving picture, with `--tick N` a picture of what stands after N ticks. `fleet check MAP PLAN`
 //! judges a plan of any planner. `fleet stats MAP TRACE..` prints figures of traces. `fleet talk MAP` answers lines as
 //! they come. `fleet convert --to FORM MAP INPUT` prints a trace as a plan, or a plan as a trace, and `fleet explain
-//! MAP [INPUT]` says what is wrong with files. `fleet live MAP` keeps a fleet in real time. What each word does is in
-//! `fleet_lib`.
+//! MAP [INPUT]` says what is wrong with files. `fleet live MAP` keeps a fleet in real time, and `fleet map --robots N
+//! MAP` says what a map offers for a fleet. What each word does is in `fleet_lib`.
 #![tactic(auto)]
 
 mod chapters;
@@ -19,6 +19,7 @@ mod inputs;
 mod kept_file;
 mod live;
 mod lock;
+mod map;
 mod piped;
 mod stats;
 mod streams;
@@ -33,6 +34,7 @@ use explain::run_explain;
 use fleet_lib::{InputFault, Job, WordFault, fail, parse_words, write_whole};
 use folder::{Start, complain_of_folder, hold_folder, tell_start};
 use live::live_on;
+use map::run_map;
 use piped::Piped;
 use stats::run_stats;
 use std::alloc::{Alloc, AllocError, Global};
@@ -112,6 +114,7 @@ fn main(rt: HostRuntime) -> ExitCode {
         Ok(Job::Convert(convert)) => run_convert(&rt, &convert, &mut output, &mut error),
         Ok(Job::Explain(explain)) => run_explain(&rt, &explain, &mut output, &mut error),
         Ok(Job::Stats(stats)) => run_stats(&rt, &stats, &mut output, &mut error),
+        Ok(Job::Map(asked)) => run_map(&rt, &asked, &mut output, &mut error),
         Ok(Job::Live(live)) => {
             let name = live.traces.as_deref();
             let start = Start::of(live.resume, live.resume_only);

@@ -9,6 +9,7 @@ mod explain;
 mod holding;
 mod kept;
 mod live;
+mod map;
 mod names;
 mod pipes;
 mod plan_trace;
@@ -31,6 +32,7 @@ pub use fleet_talk::{ChapterSink, Ends, Settings, SinkFault};
 pub use fleet_text::{InputFault, read_up_to, trace_line, write_whole};
 pub use kept::{KeptFault, KeptText};
 pub use live::run_live;
+pub use map::{MapForm, answer_map};
 pub use names::{NamesFault, last_chapter};
 pub use pipes::pipe_names;
 pub use plan_trace::{Traced, answer_trace, as_trace};
@@ -39,6 +41,6 @@ pub use stats::answer_stats;
 pub use talk::{TalkTexts, run_talk};
 pub use view::{MOST_TRACE_BYTES, answer_view};
 pub use words::{
-    Check, Convert, Explain, Figures, FormAsked, Job, Live, Shown, Stats, Talk, Target, View,
-    WordFault, parse_words,
+    Check, Convert, Explain, Figures, FormAsked, Job, Live, MapJob, Shown, Stats, Talk, Target,
+    View, WordFault, parse_words,
 };

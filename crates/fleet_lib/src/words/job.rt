@@ -10,6 +10,7 @@ use crate::words::check::{Check, check_in};
 use crate::words::convert::{Convert, convert_in};
 use crate::words::explain::{Explain, explain_in};
 use crate::words::live::{Live, live_in};
+use crate::words::map::{MapJob, map_in};
 use crate::words::program::program;
 use crate::words::stats::{Stats, stats_in};
 use crate::words::talk::{Talk, talk_in};
@@ -28,6 +29,7 @@ pub enum Job {
     Explain(Explain),
     Live(Live),
     Stats(Stats),
+    Map(MapJob),
 }
 
 /// The job of the words that `clap` accepted.
@@ -50,6 +52,8 @@ fn job_from(alloc: Global, matches: &ArgMatches<'_>) -> Result<Job, AllocError>
                 Ok(Job::Live(live_in(alloc, inner)?))
             } else if name == "stats" {
                 Ok(Job::Stats(stats_in(alloc, inner)?))
+            } else if name == "map" {
+                Ok(Job::Map(map_in(alloc, inner)?))
             } else {
                 // `clap` takes no other word, so this never runs
                 Err(AllocError)
