@@ -14,6 +14,7 @@ mod plans;
 mod reopenings;
 mod runs;
 mod scripts;
+mod surveys;
 mod traces;
 mod worlds;
 
@@ -30,5 +31,6 @@ pub use plans::{is_still_valid, is_valid};
 pub use reopenings::go_on;
 pub use runs::history_after;
 pub use scripts::robots_in;
+pub use surveys::roomy_count;
 pub use traces::is_legal;
 pub use worlds::order;

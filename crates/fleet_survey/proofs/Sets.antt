@@ -1,7 +1,7 @@
 -- Cells of a set, found one after another.
 use Rattle.std.proofs.Common.{◌≡◌, ℕ, ◌+◌, ◌<◌, ◌≤◌, ◌⊎◌, inl, inr, List, [], ◌∷◌, ◌++◌, length, get_or, refl, sym, subst, Bool, true, false, arith}
 use Rattle.std.specs.Prelude.{◌↔◌, slice_index}
-use Rattle.std.specs.List.{All, AllPairs, Contains}
+use Rattle.std.specs.List.{All, Contains}
 use Rattle.std.proofs.lemmas.Bool.{cases_lt}
 use Rattle.std.proofs.lemmas.List.{append-nil}
 use Rattle.std.proofs.lemmas.List.Elements.{All-from_get_or, All-get_or, Contains-append_left, Contains-get_or, Contains-push, Contains-push_cases}
@@ -21,23 +21,25 @@ none_below In = record {
 pub next_below : (In : ℕ → Type 0) (k : ℕ) (cells : List ℕ) (wanted : Bool) → AreCellsBelow In k cells → (wanted ≡ true → In k) → (In k → wanted ≡ true) → AreCellsBelow In (k + 1) (cells ++ cell_if wanted k)
 next_below In k cells true known said known_in = record {
   each = λ c. (
-      λ is. elim (Contains-push_cases cells k c is) [
-        | inl there ↦ (let it = (known.each c).0 there in (omega (arith, it.0), it.1))
-        | inr same ↦ (omega (arith, same), subst In same (said refl))
-      ],
-      λ it. elim (cases_lt c k) [
-        | inl below ↦ Contains-append_left cells (k ∷ []) c ((known.each c).1 (below, it.1))
-        | inr from ↦ (let e : k ≡ c = omega (arith, from, it.0) in subst (Contains (cells ++ k ∷ [])) e (Contains-push cells k))
-      ]);
+    λ is. elim (Contains-push_cases cells k c is) [
+      | inl there ↦ (let it = (known.each c).0 there in (omega (arith, it.0), it.1))
+      | inr same ↦ (omega (arith, same), subst In same (said refl))
+    ],
+    λ it. elim (cases_lt c k) [
+      | inl below ↦ Contains-append_left cells (k ∷ []) c ((known.each c).1 (below, it.1))
+      | inr from ↦ (let e : k ≡ c = omega (arith, from, it.0) in subst (Contains (cells ++ k ∷ [])) e (Contains-push cells k))
+    ],
+  );
   order = all_pairs_push (λ a b. a < b) cells k known.order (λ i d inside. ((known.each (get_or cells i d)).0 (Contains-get_or cells i d inside)).0);
 }
 next_below In k cells false known said known_in = subst (AreCellsBelow In (k + 1)) (sym (append-nil cells)) (record {
   each = λ c. (
-      λ is. (let it = (known.each c).0 is in (omega (arith, it.0), it.1)),
-      λ it. elim (cases_lt c k) [
-        | inl below ↦ (known.each c).1 (below, it.1)
-        | inr from ↦ absurd (let e : c ≡ k = omega (arith, from, it.0) in let never : false ≡ true = known_in (subst In e it.1) in cc never)
-      ]);
+    λ is. (let it = (known.each c).0 is in (omega (arith, it.0), it.1)),
+    λ it. elim (cases_lt c k) [
+      | inl below ↦ (known.each c).1 (below, it.1)
+      | inr from ↦ absurd (let e : c ≡ k = omega (arith, from, it.0) in let never : false ≡ true = known_in (subst In e it.1) in cc never)
+    ],
+  );
   order = known.order;
 })
 
@@ -83,7 +85,8 @@ within_more m most cells i least number next known floor inside before is one tw
   λ all. (
       let a = (before n small).1 (λ k less. all k (omega (arith, less))) in
       let b = (each n small).1 (all i (omega arith)) in
-      elim either [ inl e ↦ omega (arith, a, e) | inr e ↦ omega (arith, b, e, is) ]))
+      elim either [ inl e ↦ omega (arith, a, e) | inr e ↦ omega (arith, b, e, is) ]),
+)
   where
     each : (n : ℕ) → n < 4294967296 → (n ≤ slice_index most (slice_index cells i)) ↔ IsRoomy (IsNeighbour m) n (slice_index cells i)
     each n small = known.each (slice_index cells i) n (All-get_or (IsFloor m) cells i 0 inside floor) small
@@ -92,4 +95,5 @@ pub within_all : (m : Floor) (cells : List ℕ) (least : ℕ) → AreWithin m ce
 unfolding AreWithin
 within_all m cells least known n small = (
   λ le. All-from_get_or (IsRoomy (IsNeighbour m) n) cells 0 (λ k less. (known n small).0 le k less),
-  λ all. (known n small).1 (λ k less. All-get_or (IsRoomy (IsNeighbour m) n) cells k 0 less all))
+  λ all. (known n small).1 (λ k less. All-get_or (IsRoomy (IsNeighbour m) n) cells k 0 less all),
+)

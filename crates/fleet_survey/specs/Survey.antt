@@ -1,5 +1,5 @@
 -- What a map offers for a number of robots.
-use Rattle.std.specs.Prelude.{◌≡◌, ℕ, ◌^◌, ◌<◌, ◌≤◌, ◌↔◌, Bool, true, false, List, [], ◌∷◌, length}
+use Rattle.std.specs.Prelude.{◌≡◌, ℕ, ◌^◌, ◌<◌, ◌≤◌, ◌↔◌, Bool, true, false, List, [], ◌∷◌}
 use Rattle.std.specs.List.{All, AllPairs, Contains}
 use Rattle.fleet_grid.specs.Counts.{edge_count, floor_count}
 use Rattle.fleet_grid.specs.Floor.{Floor, IsFloor, IsNeighbour}

@@ -25,12 +25,7 @@ pub enum SurveyForm {
 }
 
 /// What is told of the cells of a list.
-fn listed_in(
-    alloc: Global,
-    grid: &Grid,
-    found: &Survey,
-    text: &[u8],
-) -> Result<Listed, CellsFault>
+fn listed_in(alloc: Global, grid: &Grid, found: &Survey, text: &[u8]) -> Result<Listed, CellsFault>
     requires { AreRoomyFor grid.now found.now.most.items }
 {
     let cells = read_cells(alloc, grid, text)?;

@@ -86,7 +86,9 @@ fn roomy_beside(grid: &Grid, most: &Vec<u32>, robots: u32, cell: u32) -> Option<
     requires { AreRoomyFor grid.now most.now.items }
 {
     for dir in Dir::ALL {
-        if let Some(next) = grid.neighbour(cell, dir) && is_roomy(grid, most, robots, next) {
+        if let Some(next) = grid.neighbour(cell, dir)
+            && is_roomy(grid, most, robots, next)
+        {
             return Some(next);
         }
     }

@@ -1,4 +1,4 @@
-use Rattle.std.proofs.Common.{ℕ, length}
+use Rattle.std.proofs.Common.{length}
 use Rattle.std.specs.List.{All}
 use Rattle.fleet_grid.specs.Floor.{IsFloor}
 use Rattle.fleet_survey.proofs.cells.read_cells.Given as goal

@@ -1,4 +1,4 @@
-use Rattle.std.proofs.Common.{◌≡◌, ◌≤◌, ◌<◌, sym, subst, ap, ◌∙◌, arith}
+use Rattle.std.proofs.Common.{◌≡◌, ap, ◌∙◌, arith}
 use Rattle.std.specs.Prelude.{slice_index}
 use Rattle.fleet_survey.proofs.Sets.{roomy_by, roomy_not}
 use Rattle.fleet_survey.proofs.chosen.is_roomy.Goals as goal

@@ -1,4 +1,4 @@
-use Rattle.std.proofs.Common.{◌≡◌, ◌≤◌, ◌+◌, List, ℕ, [], length, subst, sym, arith, ap, ◌∙◌}
+use Rattle.std.proofs.Common.{◌≤◌, ◌+◌, length, subst, sym, arith}
 use Rattle.fleet_grid.proofs.Forms.{floor_inside}
 use Rattle.fleet_survey.specs.Survey.{AreCellsBelow, IsRoomyCell}
 use Rattle.fleet_survey.proofs.Sets.{none_below, next_below, all_below}

@@ -1,4 +1,4 @@
-use Rattle.std.proofs.Common.{arith, refl}
+use Rattle.std.proofs.Common.{refl}
 use Rattle.fleet_survey.proofs.survey.survey_of.Goals as goal
 
 pub returns : goal.returns
