@@ -49,7 +49,10 @@ pub(crate) fn run_map<R: Files + Alloc<A = Global>, W: Write, E: Write>(
     error: &mut E,
 ) -> u8 {
     let Some(robots) = robots_of(asked) else {
-        write_whole(error, b"error: '--robots <N>' has to be given, and is from 1 to 512\n");
+        write_whole(
+            error,
+            b"error: '--robots <N>' has to be given, and is from 1 to 512\n",
+        );
         return 2;
     };
     let Some(form) = form_of(asked) else {

@@ -6,11 +6,10 @@ ghost use Rattle.fleet_lib.specs.Map.{fault_text, fault_status, faulty};
 
 use crate::check::{printed, refused};
 use crate::said::Said;
+pub use fleet_survey::SurveyForm as MapForm;
 use fleet_survey::{SurveyFault, survey_text};
 use fleet_text::Complaint;
 use std::alloc::{AllocError, Global};
-
-pub use fleet_survey::SurveyForm as MapForm;
 
 /// How a fault is named.
 fn fault_text(alloc: Global, fault: SurveyFault) -> Result<String, AllocError>

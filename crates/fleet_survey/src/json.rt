@@ -102,7 +102,7 @@ pub fn survey_json(
     write_bridges(&mut out, &s.bridges)?;
     write_ends(&mut out, &s.ends)?;
     write_listed(&mut out, listed)?;
-    let word = promised(s.standing());
+    let word = promised(s.standing);
     write!(out, "\"promises\":\"{word}\"}}\n")?;
     Ok(out)
 }

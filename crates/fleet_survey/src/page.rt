@@ -109,6 +109,6 @@ pub fn survey_lines(
     if let Some(listed) = listed {
         write_listed(&mut out, listed)?;
     }
-    write_promises(&mut out, s.standing())?;
+    write_promises(&mut out, s.standing)?;
     Ok(out)
 }

@@ -5,6 +5,7 @@ ghost use Rattle.fleet_survey.specs.Survey.{IsSurvey};
 
 use crate::chosen::{numbers_of, roomy_cells, tight_cells};
 use crate::ends::{DeadEnd, dead_ends};
+use crate::standing::{Standing, standing_of};
 use fleet_bridge::bridges;
 use fleet_grid::Grid;
 use std::alloc::{AllocError, Global};
@@ -28,6 +29,8 @@ pub struct Survey {
     /// The floor cells that are not.
     pub tight: Vec<u32>,
     pub ends: Vec<DeadEnd>,
+    /// For which errands the promises on waits are.
+    pub standing: Standing,
 }
 
 /// Surveys a map for a number of robots. `AllocError` if memory runs out.
@@ -39,6 +42,7 @@ pub fn survey_of(alloc: Global, grid: &Grid, robots: u32) -> Result<Survey, Allo
     let roomy = roomy_cells(alloc, grid, &most, robots)?;
     let ends = dead_ends(alloc, grid, &most, robots, &tight)?;
     let bridges = bridges(alloc, grid)?;
+    let standing = standing_of(&bridges, &roomy, &tight);
     Ok(Survey {
         robots,
         height: grid.height(),
@@ -50,5 +54,6 @@ pub fn survey_of(alloc: Global, grid: &Grid, robots: u32) -> Result<Survey, Allo
         roomy,
         tight,
         ends,
+        standing,
     })
 }

@@ -32,7 +32,8 @@ const LINES: &str = "size 3 7\n\
     promise 3, every wait is below a bound: if all errands go to roomy cells\n";
 
 /// The same as JSON.
-const JSON: &str = "{\"height\":3,\"width\":7,\"floor\":12,\"edges\":13,\"robots\":4,\"roomy\":11,\"not_roomy\":1,\
+const JSON: &str =
+    "{\"height\":3,\"width\":7,\"floor\":12,\"edges\":13,\"robots\":4,\"roomy\":11,\"not_roomy\":1,\
     \"bridges\":[[8,9],[9,10],[10,11],[10,17],[11,12]],\"dead_ends\":[{\"mouth\":10,\"size\":1,\"cells\":[17]}],\
     \"cells\":2,\"cells_roomy_for\":5,\"promises\":\"some_roomy\"}\n";
 
@@ -55,7 +56,15 @@ fn texts(rt: HostRuntime) {
     assert!(rt; is_told(&rt, rt.alloc(), SurveyForm::Json, RINGS, JSON));
     assert!(rt; is_told(&rt, rt.alloc(), SurveyForm::Pruned, RINGS, PRUNED));
     // what is pruned has nothing left to prune
-    assert!(rt; is_told(&rt, rt.alloc(), SurveyForm::Pruned, PRUNED.as_bytes(), PRUNED));
+    assert!(rt;
+        is_told(
+            &rt,
+            rt.alloc(),
+            SurveyForm::Pruned,
+            PRUNED.as_bytes(),
+            PRUNED
+        )
+    );
 }
 
 /// Why nothing is told.

@@ -42,7 +42,7 @@ fn rings_for_four_robots(rt: HostRuntime) {
     for end in found.ends.iter() {
         assert!(rt; end.mouth == Some(10) && end.cells.as_slice() == [17u32].as_slice());
     }
-    assert!(rt; found.standing() == Standing::SomeRoomy);
+    assert!(rt; found.standing == Standing::SomeRoomy);
 }
 
 #[test]
@@ -61,7 +61,7 @@ fn rings_for_five_robots(rt: HostRuntime) {
     }
     // With nine robots no cell is roomy: the part as a whole is a dead end without a mouth.
     let found = surveyed(&rt, rt.alloc(), &grid, 9);
-    assert!(rt; found.standing() == Standing::NoneRoomy && found.ends.len() == 1);
+    assert!(rt; found.standing == Standing::NoneRoomy && found.ends.len() == 1);
     for end in found.ends.iter() {
         assert!(rt; end.mouth.is_none() && end.cells.len() == 12);
     }
@@ -71,9 +71,9 @@ fn rings_for_five_robots(rt: HostRuntime) {
 fn standings(rt: HostRuntime) {
     let ring = grid_of(&rt, rt.alloc(), 2, 2, b"....");
     let found = surveyed(&rt, rt.alloc(), &ring, 512);
-    assert!(rt; found.standing() == Standing::Bridgeless);
+    assert!(rt; found.standing == Standing::Bridgeless);
     let found = surveyed(&rt, rt.alloc(), &rings(&rt, rt.alloc()), 1);
-    assert!(rt; found.standing() == Standing::AllRoomy && found.ends.is_empty());
+    assert!(rt; found.standing == Standing::AllRoomy && found.ends.is_empty());
 }
 
 /// For how many robots the cells that a text lists are roomy.
