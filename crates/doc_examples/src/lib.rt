@@ -15,6 +15,7 @@ mod reopenings;
 mod roomy;
 mod runs;
 mod scripts;
+mod surveys;
 mod traces;
 mod worlds;
 
@@ -32,5 +33,6 @@ pub use reopenings::go_on;
 pub use roomy::may_block;
 pub use runs::history_after;
 pub use scripts::robots_in;
+pub use surveys::roomy_count;
 pub use traces::is_legal;
 pub use worlds::order;

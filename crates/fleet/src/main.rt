@@ -3,7 +3,8 @@
 //! judges a plan of any planner. `fleet stats MAP TRACE..` prints figures of traces. `fleet talk MAP` answers lines as
 //! they come. `fleet convert --to FORM MAP INPUT` prints a trace as a plan, or a plan as a trace, and `fleet explain
 //! MAP [INPUT]` says what is wrong with files. `fleet live MAP` keeps a fleet in real time. `fleet judge MAP TRACE..`
-//! judges traces. What each word does is in `fleet_lib`.
+//! judges traces, and `fleet map --robots N MAP` says what a map offers for a fleet. What each word does is in
+//! `fleet_lib`.
 #![tactic(auto)]
 
 mod chapters;
@@ -21,6 +22,7 @@ mod judge;
 mod kept_file;
 mod live;
 mod lock;
+mod map;
 mod piped;
 mod stats;
 mod streams;
@@ -36,6 +38,7 @@ use fleet_lib::{InputFault, Job, WordFault, fail, parse_words, write_whole};
 use folder::{Start, complain_of_folder, hold_folder, tell_start};
 use judge::run_judge;
 use live::{Kit, hold_live, kit_of};
+use map::run_map;
 use piped::Piped;
 use stats::run_stats;
 use std::alloc::{Alloc, Global};
@@ -116,6 +119,7 @@ fn main(rt: HostRuntime) -> ExitCode {
         Ok(Job::Explain(explain)) => run_explain(&rt, &explain, &mut output, &mut error),
         Ok(Job::Stats(stats)) => run_stats(&rt, &stats, &mut output, &mut error),
         Ok(Job::Judge(judge)) => run_judge(&rt, &judge, &mut output, &mut error),
+        Ok(Job::Map(asked)) => run_map(&rt, &asked, &mut output, &mut error),
         Ok(Job::Live(live)) => {
             let name = live.traces.as_deref();
             let start = Start::of(live.resume, live.resume_only);

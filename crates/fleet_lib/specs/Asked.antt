@@ -24,6 +24,7 @@ use Rattle.fleet_lib.specs.declared.words.stats.Figures.{Figures}
 use Rattle.fleet_lib.specs.declared.words.stats.Figures.TheVariants as figures
 use Rattle.fleet_lib.specs.declared.words.stats.Stats.{Stats as StatsJob}
 use Rattle.fleet_lib.specs.declared.words.judge.Judge.{Judge as JudgeJob}
+use Rattle.fleet_lib.specs.declared.words.map.MapJob.{MapJob}
 use Rattle.fleet_lib.specs.declared.words.job.Job.{Job}
 use Rattle.fleet_lib.specs.declared.words.job.Job.TheVariants as job
 
@@ -160,6 +161,19 @@ pub record IsJudge (rows : List Row) (judge : JudgeJob) : Type 0 where
   pub floor : first_of (codes "MAP") rows ≡ Some (string_bytes judge.map)
   pub traces : all_of (codes "TRACE") rows ≡ Some (map (λ s. string_bytes s) judge.traces.items)
 
+-- how many robots the words after `map` ask for
+abbrev pub IsRobotsAsked : List Row → Option ℕ → Type 0
+IsRobotsAsked rows None = first_of (codes "robots") rows ≡ None
+IsRobotsAsked rows (Some count) = (word : Text) × (first_of (codes "robots") rows ≡ Some word) × (count ≡ digits_value 10 (without_leading_plus word))
+
+-- what the words after `map` ask for
+pub record IsMapJob (rows : List Row) (asked : MapJob) : Type 0 where
+  pub robots : IsRobotsAsked rows asked.robots
+  pub cells : first_of (codes "cells") rows ≡ option_map (λ s. string_bytes s) asked.cells
+  pub prune : asked.prune ≡ has_flag (codes "prune") rows
+  pub json : asked.json ≡ has_flag (codes "json") rows
+  pub floor : first_of (codes "MAP") rows ≡ Some (string_bytes asked.map)
+
 -- the job of a subcommand and the words that stand for its arguments
 abbrev pub IsJobOf : Option (Text × List Row) → Job → Type 0
 IsJobOf found (job.View view) = (rows : List Row) × (found ≡ Some (codes "view", rows)) × IsView rows view
@@ -170,3 +184,4 @@ IsJobOf found (job.Explain explain) = (rows : List Row) × (found ≡ Some (code
 IsJobOf found (job.Live live) = (rows : List Row) × (found ≡ Some (codes "live", rows)) × IsLive rows live
 IsJobOf found (job.Stats stats) = (rows : List Row) × (found ≡ Some (codes "stats", rows)) × IsStats rows stats
 IsJobOf found (job.Judge judge) = (rows : List Row) × (found ≡ Some (codes "judge", rows)) × IsJudge rows judge
+IsJobOf found (job.Map asked) = (rows : List Row) × (found ≡ Some (codes "map", rows)) × IsMapJob rows asked

@@ -43,6 +43,11 @@ stats_app = with_rules (new_app (codes "stats"))
 abbrev pub judge_app : App
 judge_app = with_rules (new_app (codes "judge")) (file_rule (codes "MAP") ∷ files_rule (codes "TRACE") ∷ [])
 
+-- map --robots N [--cells FILE] [--json] [--prune] MAP
+abbrev pub map_app : App
+map_app = with_rules (new_app (codes "map"))
+    (number_rule (codes "robots") ∷ value_rule (codes "cells") ∷ flag_rule (codes "json") ∷ flag_rule (codes "prune") ∷ file_rule (codes "MAP") ∷ [])
+
 -- fleet, which tells its version and wants a word
 abbrev pub fleet_app : App
-fleet_app = with_words (program_top (codes "fleet") true) (view_app ∷ check_app ∷ talk_app ∷ convert_app ∷ explain_app ∷ live_app ∷ stats_app ∷ judge_app ∷ [])
+fleet_app = with_words (program_top (codes "fleet") true) (view_app ∷ check_app ∷ talk_app ∷ convert_app ∷ explain_app ∷ live_app ∷ stats_app ∷ judge_app ∷ map_app ∷ [])

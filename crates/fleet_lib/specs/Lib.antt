@@ -2,6 +2,7 @@ pub mod Convert
 pub mod Ended
 pub mod Explain
 pub mod Kept
+pub mod Map
 pub mod Names
 pub mod PlanTrace
 pub mod Said

@@ -10,6 +10,7 @@ mod holding;
 mod judge;
 mod kept;
 mod live;
+mod map;
 mod names;
 mod pipes;
 mod plan_trace;
@@ -33,6 +34,7 @@ pub use fleet_text::{InputFault, read_up_to, trace_line, write_whole};
 pub use judge::{Judgement, answer_judge};
 pub use kept::{KeptFault, KeptText};
 pub use live::run_live;
+pub use map::{MapForm, answer_map};
 pub use names::{NamesFault, last_chapter};
 pub use pipes::pipe_names;
 pub use plan_trace::{Traced, answer_trace, as_trace};
@@ -41,6 +43,6 @@ pub use stats::answer_stats;
 pub use talk::{TalkTexts, run_talk};
 pub use view::{MOST_TRACE_BYTES, answer_view};
 pub use words::{
-    Check, Convert, Explain, Figures, FormAsked, Job, Judge, Live, Shown, Stats, Talk, Target,
-    View, WordFault, parse_words,
+    Check, Convert, Explain, Figures, FormAsked, Job, Judge, Live, MapJob, Shown, Stats, Talk,
+    Target, View, WordFault, parse_words,
 };

@@ -101,7 +101,7 @@ fn small_maps_beside_the_searches(rt: HostRuntime) {
 #[test]
 fn random_maps_beside_the_searches(rt: HostRuntime) {
     let mut random = Random::from_seed(1976);
-    for _ in 0..5000 {
+    for _ in 0..2000 {
         let grid = random_map(&rt, rt.alloc(), &mut random);
         assert!(rt; is_as_searched(&rt, rt.alloc(), &grid));
     }

@@ -25,4 +25,8 @@ mod squares;
 #[cfg(test)]
 mod steps;
 #[cfg(test)]
+mod survey_texts;
+#[cfg(test)]
+mod surveys;
+#[cfg(test)]
 mod waits;

@@ -11,6 +11,7 @@ use crate::words::convert::{Convert, convert_in};
 use crate::words::explain::{Explain, explain_in};
 use crate::words::judge::{Judge, judge_in};
 use crate::words::live::{Live, live_in};
+use crate::words::map::{MapJob, map_in};
 use crate::words::program::program;
 use crate::words::stats::{Stats, stats_in};
 use crate::words::talk::{Talk, talk_in};
@@ -30,6 +31,7 @@ pub enum Job {
     Live(Live),
     Stats(Stats),
     Judge(Judge),
+    Map(MapJob),
 }
 
 /// The job of the words that `clap` accepted.
@@ -54,6 +56,8 @@ fn job_from(alloc: Global, matches: &ArgMatches<'_>) -> Result<Job, AllocError>
                 Ok(Job::Stats(stats_in(alloc, inner)?))
             } else if name == "judge" {
                 Ok(Job::Judge(judge_in(alloc, inner)?))
+            } else if name == "map" {
+                Ok(Job::Map(map_in(alloc, inner)?))
             } else {
                 // `clap` takes no other word, so this never runs
                 Err(AllocError)

@@ -9,6 +9,7 @@ use crate::words::convert::CONVERT;
 use crate::words::explain::EXPLAIN;
 use crate::words::judge::JUDGE;
 use crate::words::live::LIVE;
+use crate::words::map::MAP_WORD;
 use crate::words::stats::STATS;
 use crate::words::talk::TALK;
 use crate::words::view::VIEW;
@@ -20,11 +21,13 @@ pub(crate) const VERSION: &str = "0.1.0";
 /// The program.
 pub(crate) const FLEET: Program<'static> = Program {
     name: "fleet",
-    about: "Looks at fleets of robots: shows traces of what they did and counts figures of them, judges them, judges plans and writes them, answers lines as they come, and keeps fleets in real time",
+    about: "Looks at fleets of robots: shows traces of what they did and counts figures of them, judges them, judges plans and writes them, says what maps offer, answers lines as they come, and keeps fleets in real time",
     version: VERSION,
     note: None,
     needs_word: true,
-    words: &[VIEW, CHECK, TALK, CONVERT, EXPLAIN, LIVE, STATS, JUDGE],
+    words: &[
+        VIEW, CHECK, TALK, CONVERT, EXPLAIN, LIVE, STATS, JUDGE, MAP_WORD,
+    ],
 };
 
 /// The program with its words. Only this function names the constant, since a proof has it at each step of the

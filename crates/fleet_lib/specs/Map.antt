@@ -1,0 +1,21 @@
+-- The result of the word `map`.
+use Rattle.std.specs.Prelude.{ℕ, List, [], ◌++◌, codes, decimal}
+use Rattle.fleet_text.specs.declared.said.Complaint.TheVariants as complaint
+use Rattle.fleet_text.specs.Complaint.{complaint_text}
+use Rattle.fleet_survey.specs.declared.fault.SurveyFault.{SurveyFault}
+use Rattle.fleet_survey.specs.declared.fault.SurveyFault.TheVariants as fault
+use Rattle.fleet_lib.specs.Said.{Outcome}
+
+-- how a fault is named: a map as by `errands judge`, and a list of cells by its first line that is none
+abbrev pub fault_text : SurveyFault → List ℕ
+fault_text (fault.Map f) = complaint_text (complaint.Map f)
+fault_text (fault.Cells line) = codes "cells " ++ decimal line
+fault_text fault.NoMemory = codes "memory"
+
+abbrev pub fault_status : SurveyFault → ℕ
+fault_status (fault.Map f) = 4
+fault_status (fault.Cells line) = 5
+fault_status fault.NoMemory = 7
+
+abbrev pub faulty : SurveyFault → Outcome
+faulty f = record { output = []; status = fault_status f; complaint = codes "fleet: " ++ (fault_text f ++ codes "\n") }

@@ -1,0 +1,82 @@
+//! The word `map`.
+
+ghost use Rattle.std.specs.Prelude.{◌≡◌, IfOk};
+ghost use Rattle.clap.specs.Words.{found_of, rows_of};
+ghost use Rattle.fleet_lib.specs.Asked.{IsMapJob, IsRobotsAsked};
+
+use crate::words::arguments::MAP;
+use clap::ArgMatches;
+use command_words::{Argument, Kind, Word, has_flag, some_word_for, word_for};
+use std::alloc::{AllocError, Global};
+
+/// To say what a map offers for a number of robots.
+#[derive(Debug, Drop)]
+pub struct MapJob {
+    pub robots: Option<u32>,
+    /// A file with a list of cells.
+    pub cells: Option<String>,
+    /// Whether to print the map without the cells that are not roomy, in place of figures.
+    pub prune: bool,
+    pub json: bool,
+    pub map: String,
+}
+
+/// `map --robots N [--cells FILE] [--json] [--prune] MAP`.
+pub(crate) const MAP_WORD: Word<'static> = Word {
+    name: "map",
+    about: "Says what a map offers for N robots: its bridges, its dead ends, the cells that are roomy, and which promises hold",
+    example: "Example: fleet map --robots 60 --cells stations.txt warehouse.map",
+    arguments: &[
+        Argument {
+            name: "robots",
+            kind: Kind::Number("N"),
+            help: "The number of robots, from 1 to 512, which has to be given",
+        },
+        Argument {
+            name: "cells",
+            kind: Kind::Value("FILE"),
+            help: "Say for how many robots all cells of this file are roomy; each of its words is a cell's number, or its column and row as X,Y",
+        },
+        Argument {
+            name: "json",
+            kind: Kind::Flag,
+            help: "Print a JSON object in place of lines",
+        },
+        Argument {
+            name: "prune",
+            kind: Kind::Flag,
+            help: "Print the map with walls in place of the cells that are not roomy, again and again until all are, and no figures",
+        },
+        MAP,
+    ],
+};
+
+/// How many robots the words ask for.
+fn robots_in(matches: &ArgMatches<'_>) -> Result<Option<u32>, AllocError>
+    ensures { IfOk result (IsRobotsAsked (rows_of (found_of matches.now))) }
+{
+    match matches.get_str("robots") {
+        Some(word) => match word.parse::<u32>() {
+            Ok(count) => Ok(Some(count)),
+            // `clap` took it for a number of this range, so this never runs
+            Err(_) => Err(AllocError),
+        },
+        None => Ok(None),
+    }
+}
+
+/// What the arguments of `map` ask for.
+pub(crate) fn map_in(alloc: Global, matches: &ArgMatches<'_>) -> Result<MapJob, AllocError>
+    ensures { IfOk result (λ asked. IsMapJob (rows_of (found_of matches.now)) asked) }
+{
+    let robots = robots_in(matches)?;
+    let cells = some_word_for(alloc, matches, "cells")?;
+    let map = word_for(alloc, matches, "MAP")?;
+    Ok(MapJob {
+        robots,
+        cells,
+        prune: has_flag(matches, "prune"),
+        json: has_flag(matches, "json"),
+        map,
+    })
+}
