@@ -101,7 +101,7 @@ fn small_maps_beside_the_searches(rt: HostRuntime) {
 #[test]
 fn random_maps_beside_the_searches(rt: HostRuntime) {
     let mut random = Random::from_seed(1976);
-    for _ in 0..2000 {
+    for _ in 0..1000 {
         let grid = random_map(&rt, rt.alloc(), &mut random);
         assert!(rt; is_as_searched(&rt, rt.alloc(), &grid));
     }
@@ -109,11 +109,11 @@ fn random_maps_beside_the_searches(rt: HostRuntime) {
 
 #[test]
 fn long_corridor(rt: HostRuntime) {
-    let cells = letters(rt.alloc(), 1024, Shape::Snake).expect(&rt, "memory for a map");
-    let grid = grid_of(&rt, rt.alloc(), 1024, 1024, &cells);
+    let cells = letters(rt.alloc(), 512, Shape::Snake).expect(&rt, "memory for a map");
+    let grid = grid_of(&rt, rt.alloc(), 512, 512, &cells);
     let all = bridges(rt.alloc(), &grid).expect(&rt, "memory for a tree");
-    // Each of its 512 * 1,025 cells but the last has a next one.
-    assert!(rt; all.len() == 512 * 1025 - 1);
+    // Each of its 256 * 513 cells but the last has a next one.
+    assert!(rt; all.len() == 256 * 513 - 1);
 }
 
 /// Whether an allocation is refused. After a refusal, the next call with the same memory finds the bridges.
