@@ -184,7 +184,6 @@ fn settings_of(live: &Live) -> Result<LiveSettings, BadWord> {
         chapter_bytes,
         watch: live.watch,
         service: live.service,
-        roomy: live.roomy,
         version: VERSION,
     })
 }

@@ -2,8 +2,7 @@
 
 ghost use Rattle.fleet_office.specs.Views.{AreOn, cores};
 
-use crate::conversation::{Clients, Conversation, Own};
-use crate::serving::Site;
+use crate::conversation::{Clients, Conversation};
 use crate::voice::Voice;
 use fleet_lanes::Client;
 use fleet_office::{Guest, OfficeName, guests_of};
@@ -26,16 +25,13 @@ fn new_conversation<N: OfficeName<Global>>(
     rights: Rights,
     clients: Clients,
     guests: Vec<Guest<N>>,
-    site: &Site,
+    taken: &[u64],
 ) -> Result<Arc<Conversation<N>>, AllocError> {
-    let own = Own {
-        voice: new_voice(alloc)?,
-        door: Arc::try_clone(&site.door)?,
-        taken: Vec::from_slice(alloc, &site.taken)?,
-    };
+    let voice = new_voice(alloc)?;
+    let taken = Vec::from_slice(alloc, taken)?;
     match Arc::new(
         alloc,
-        Conversation::new(place, rights, clients, guests, own),
+        Conversation::new(place, rights, clients, voice, guests, taken),
     ) {
         Ok(one) => Ok(one),
         Err(_) => Err(AllocError),
@@ -46,7 +42,7 @@ fn new_conversation<N: OfficeName<Global>>(
 fn own_conversation<N: OfficeName<Global>>(
     alloc: Global,
     guest: Guest<N>,
-    site: &Site,
+    taken: &[u64],
 ) -> Result<Arc<Conversation<N>>, AllocError> {
     let first = guest.number() as usize;
     let end = first.saturating_add(1);
@@ -56,7 +52,7 @@ fn own_conversation<N: OfficeName<Global>>(
         is_operator: false,
         ticks: false,
     };
-    new_conversation(alloc, end, rights, Clients { first, end }, guests, site)
+    new_conversation(alloc, end, rights, Clients { first, end }, guests, taken)
 }
 
 /// The conversations: the first is that of the clients that have no pipes, the others are those of clients 0, 1, ..
@@ -65,7 +61,7 @@ pub(crate) fn conversations_of<N: OfficeName<Global>>(
     clients: Vec<Client>,
     pipes: usize,
     paced: bool,
-    site: &Site,
+    taken: &[u64],
 ) -> Result<Vec<Arc<Conversation<N>>>, AllocError>
     requires { AreOn N.rings (cores clients.items) }
 {
@@ -80,7 +76,7 @@ pub(crate) fn conversations_of<N: OfficeName<Global>>(
     let mut own = Vec::new(alloc);
     for guest in guests {
         if (guest.number() as usize) < pipes {
-            push_one(&mut own, own_conversation(alloc, guest, site)?)?;
+            push_one(&mut own, own_conversation(alloc, guest, taken)?)?;
         } else if rest.push(guest).is_err() {
             return Err(AllocError);
         }
@@ -90,7 +86,7 @@ pub(crate) fn conversations_of<N: OfficeName<Global>>(
         ticks: !paced,
     };
     let mut all = Vec::new(alloc);
-    let first = new_conversation(alloc, 0, rights, clients, rest, site)?;
+    let first = new_conversation(alloc, 0, rights, clients, rest, taken)?;
     push_one(&mut all, first)?;
     for one in own {
         push_one(&mut all, one)?;

@@ -10,7 +10,7 @@ ghost use Rattle.fleet_live.specs.Ended.{IsEnded, IsRefusedHead, ended_by, unope
 
 use crate::conversation::Conversation;
 use crate::ending::finish;
-use crate::serving::{Left, Site, counted, serve, shared_door};
+use crate::serving::{Left, Site, counted, serve};
 use crate::stage::Stage;
 use fleet_book::Limits;
 use fleet_core::OpenFault;
@@ -18,7 +18,7 @@ use fleet_grid::Grid;
 use fleet_hooks::Hooks;
 use fleet_lanes::Client;
 use fleet_office::{Desk, Office, OfficeName, Ticker};
-use fleet_talk::{ChapterSink, Door, Ground, TALK_LIMITS, TalkFault, door_for};
+use fleet_talk::{ChapterSink, Ground, TALK_LIMITS, TalkFault};
 use live_parts::{LiveEnds, LiveSettings, Stop};
 use std::alloc::{Alloc, AllocError, Global};
 use std::io::{Read, Write};
@@ -72,14 +72,13 @@ impl Opening {
     }
 
     /// The site of the fleet.
-    fn site(&self, alloc: Global, settings: LiveSettings, door: Arc<Door>) -> Site {
+    fn site(&self, alloc: Global, settings: LiveSettings) -> Site {
         Site {
             settings,
             robots: counted(self.starts.len()),
             cells: self.grid.cell_count(),
             chapter: self.limits.chapter,
             taken: Vec::new(alloc),
-            door,
         }
     }
 }
@@ -183,8 +182,6 @@ pub(crate) fn keep_office<
     requires on { AreOn N.rings (cores clients.items) }
     ensures opened { IfErr result IsEnded }
 {
-    let mut ends = ends;
-    ends.sink.opened(&site.door);
     match serve(rt, &office, clients, ticker, site, ends) {
         Ok(left) => end_fleet(rt, office, left),
         Err(AllocError) => {
@@ -208,7 +205,6 @@ fn keep_fleet<
     rt: &R,
     opening: Opening,
     settings: LiveSettings,
-    door: Arc<Door>,
     ends: LiveEnds<I, W, P, Q, E, S>,
 ) -> Result<bool, TalkFault>
     requires named { IsNamed opening.desk N.name N.parts N.rings }
@@ -216,7 +212,7 @@ fn keep_fleet<
     ensures refused { (why : OpenFault) → IsNamedFault why →
         ((result ≡ Err (TalkFault.Opening why)) ↔ IsRefused opening.grid opening.starts.items (length opening.desk.clients) opening.desk.limits (laws_of opening.hooks) why) }
 {
-    let site = opening.site(rt.alloc(), settings, door);
+    let site = opening.site(rt.alloc(), settings);
     let Opening {
         desk,
         limits: _,
@@ -229,16 +225,6 @@ fn keep_fleet<
         Err(fault) => return Err(unopened(fault)),
     };
     keep_office(rt, office, clients, ticker, site, ends)
-}
-
-/// The door of a fleet, for all its conversations.
-fn door_of(
-    alloc: Global,
-    roomy: bool,
-    grid: &Grid,
-    robots: usize,
-) -> Result<Arc<Door>, AllocError> {
-    shared_door(alloc, door_for(alloc, roomy, grid, robots)?)
 }
 
 /// Keeps a fleet in real time: opens an office with the head's robots and clients, lets each conversation post, look
@@ -270,19 +256,12 @@ pub fn keep_live<
 {
     let Ground { grid, kit, head } = ground;
     let starts = head.starts.unwrap_or(Vec::new(rt.alloc()));
-    let door = match door_of(rt.alloc(), settings.roomy, &grid, starts.len()) {
-        Ok(door) => door,
-        Err(AllocError) => {
-            mem::drop(kit);
-            return Err(TalkFault::NoMemory);
-        }
-    };
     let hooks = kit.choose(head.south.unwrap_or(false)).cut(starts.len());
     let limits = head.limits.limits_over(TALK_LIMITS);
     match Desk::new(rt.alloc(), head.clients.unwrap_or(1), limits) {
         Ok(desk) => {
             let opening = Opening::of(desk, limits, grid, starts, hooks);
-            keep_fleet::<Brand, R, I, W, P, Q, E, S>(rt, opening, settings, door, ends)
+            keep_fleet::<Brand, R, I, W, P, Q, E, S>(rt, opening, settings, ends)
         }
         Err(OpenFault::Limits) => {
             mem::drop(hooks);

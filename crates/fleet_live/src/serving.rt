@@ -14,7 +14,7 @@ use crate::threads::{
 use crate::tickers::work_all;
 use fleet_lanes::Client;
 use fleet_office::{Office, OfficeName, Ticker};
-use fleet_talk::{ChapterSink, Door};
+use fleet_talk::ChapterSink;
 use live_parts::{Archive, ChapterSize, Due, LiveEnds, LiveSettings, Pipes, Stop};
 use std::alloc::{Alloc, AllocError, Global};
 use std::io::{Read, Write};
@@ -55,15 +55,6 @@ pub(crate) struct Site {
     pub(crate) chapter: u32,
     /// By client, how many of its orders were taken before the fleet went on; none where it begins anew.
     pub(crate) taken: Vec<u64>,
-    pub(crate) door: Arc<Door>,
-}
-
-/// A door that conversations share.
-pub(crate) fn shared_door(alloc: Global, door: Door) -> Result<Arc<Door>, AllocError> {
-    match Arc::new(alloc, door) {
-        Ok(door) => Ok(door),
-        Err(_) => Err(AllocError),
-    }
 }
 
 /// How many bytes of fields are kept on a map of this many cells, each of which takes a byte of a field.
@@ -127,7 +118,7 @@ fn stage_of<N: OfficeName<Global>, R: Alloc<A = Global> + Clock, S: ChapterSink 
     let settings = &site.settings;
     let paced = settings.period.is_some();
     let round = round_of(rt, site, clients.len(), open)?;
-    let conversations = conversations_of(alloc, clients, pipes, paced, site)?;
+    let conversations = conversations_of(alloc, clients, pipes, paced, &site.taken)?;
     let bell = new_bell(alloc)?;
     let counts = new_voice(alloc)?;
     Ok(Stage {

@@ -9,7 +9,6 @@ pub mod Rolling
 pub mod Breaking
 pub mod Onces
 pub mod Onward
-mod Doors
 pub mod Finishing
 pub mod Resumptions
 pub mod Starting

@@ -1,7 +1,6 @@
 pub mod Ask
 pub mod Lines
 pub mod Says
-pub mod Door
 pub mod Act
 pub mod Heard
 pub mod Broken

@@ -31,9 +31,6 @@ use test_kit::blocks_of;
 use timed::Timed;
 use tray::{Counts, Tray};
 
-/// A hall of nine cells with a dead end of three.
-const STUB: &[u8] = b"type octile\nheight 3\nwidth 6\nmap\n...@@@\n......\n...@@@\n";
-
 const MAP: &[u8] = b"type octile\nheight 3\nwidth 3\nmap\n...\n.@.\n...\n";
 
 /// The word of the option that begins so, if there is one.
@@ -64,7 +61,6 @@ fn words(alloc: Global, case: Conversation<'_>) -> Result<Live, AllocError> {
         pipes: Vec::new(alloc),
         watch: case.has(b"+ watch"),
         service: false,
-        roomy: case.has(b"+ roomy"),
     })
 }
 
@@ -154,7 +150,7 @@ fn tell_case<R: Alloc<A = Global> + Clock + Threads + Sync + Wait + Copy + Send 
     let ends = ends_of(alloc, rt, hands, case, output, sink)?;
     let words = words(alloc, case)?;
     let texts = TalkTexts {
-        map: if case.has(b"+ map stub") { STUB } else { MAP },
+        map: MAP,
         script: short(&script),
         kept: case.kept(),
     };

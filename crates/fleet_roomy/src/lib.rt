@@ -1,6 +1,0 @@
-//! The cells of a map that are not roomy for a fleet.
-#![tactic(auto)]
-
-mod unroomy;
-
-pub use unroomy::{UnroomyCells, unroomy_cells};
