@@ -4,7 +4,7 @@ use crate::floor::grid_of;
 use crate::roomy::random_map;
 use fleet_bridge::roominess;
 use fleet_grid::{Dir, Grid};
-use fleet_survey::{CellsFault, Standing, Survey, pruned, read_cells, roomy_for, survey_of};
+use fleet_survey::{CellsFault, Standing, Survey, pruned, read_cells, survey_of};
 use std::alloc::Global;
 use std::process::Abort;
 use test_kit::Random;
@@ -76,26 +76,37 @@ fn standings(rt: HostRuntime) {
     assert!(rt; found.standing == Standing::AllRoomy && found.ends.is_empty());
 }
 
-/// For how many robots the cells that a text lists are roomy.
-fn greatest(rt: &impl Abort, alloc: Global, grid: &Grid, text: &[u8]) -> Result<u32, CellsFault> {
-    let most = roominess(alloc, grid).expect(rt, "memory for a tree");
-    let cells = read_cells(alloc, grid, text)?;
-    Ok(roomy_for(grid, &most, &cells))
+/// Whether a text lists these cells.
+fn lists(alloc: Global, grid: &Grid, text: &[u8], wanted: &[u32]) -> bool {
+    match read_cells(alloc, grid, text) {
+        Ok(cells) => cells.as_slice() == wanted,
+        Err(_) => false,
+    }
+}
+
+/// Whether a text is refused for its line with this number.
+fn refused_at(alloc: Global, grid: &Grid, text: &[u8], number: u64) -> bool {
+    match read_cells(alloc, grid, text) {
+        Ok(_) => false,
+        Err(fault) => fault == CellsFault::Line(number),
+    }
 }
 
 #[test]
 fn lists_of_cells(rt: HostRuntime) {
     let grid = rings(&rt, rt.alloc());
-    assert!(rt; greatest(&rt, rt.alloc(), &grid, b"") == Ok(u32::MAX));
-    assert!(rt; greatest(&rt, rt.alloc(), &grid, b"10\n") == Ok(7));
+    assert!(rt; lists(rt.alloc(), &grid, b"", [].as_slice()));
+    assert!(rt; lists(rt.alloc(), &grid, b"10\n", [10u32].as_slice()));
     // Column 3 and row 1 are cell 10, column 2 and row 1 cell 9.
-    assert!(rt; greatest(&rt, rt.alloc(), &grid, b"3,1 10\n\n2,1\r\n") == Ok(5));
-    assert!(rt; greatest(&rt, rt.alloc(), &grid, b"10\n17 0") == Ok(1));
+    let three = [10u32, 10, 9];
+    assert!(rt; lists(rt.alloc(), &grid, b"3,1 10\n\n2,1\r\n", three.as_slice()));
+    let three = [10u32, 17, 0];
+    assert!(rt; lists(rt.alloc(), &grid, b"10\n17 0", three.as_slice()));
     // A wall, a row past the last one, a column past the last one, and no number.
-    assert!(rt; greatest(&rt, rt.alloc(), &grid, b"10\n2") == Err(CellsFault::Line(2)));
-    assert!(rt; greatest(&rt, rt.alloc(), &grid, b"0,3") == Err(CellsFault::Line(1)));
-    assert!(rt; greatest(&rt, rt.alloc(), &grid, b"7,0") == Err(CellsFault::Line(1)));
-    assert!(rt; greatest(&rt, rt.alloc(), &grid, b"\n\nx") == Err(CellsFault::Line(3)));
+    assert!(rt; refused_at(rt.alloc(), &grid, b"10\n2", 2));
+    assert!(rt; refused_at(rt.alloc(), &grid, b"0,3", 1));
+    assert!(rt; refused_at(rt.alloc(), &grid, b"7,0", 1));
+    assert!(rt; refused_at(rt.alloc(), &grid, b"\n\nx", 3));
 }
 
 /// Whether the pruned map has these floor cells.
