@@ -23,6 +23,11 @@ ROW = "type octile\nheight 1\nwidth 3\nmap\n...\n"
 APART = "type octile\nheight 1\nwidth 3\nmap\n.@.\n"
 
 
+def chapters_in(folder):
+    """The names of the files in a folder, but for the lock, which stays there."""
+    return sorted(name for name in os.listdir(folder) if name != "fleet.lock")
+
+
 class Folder(unittest.TestCase):
     """A test with maps, and with folders for chapters."""
 
@@ -183,7 +188,7 @@ class Programs:
             fleet.tick(2)
             self.assertEqual((fleet.look().chapter, fleet.look().entries), (1, 1))
             self.assertEqual(fleet.chapter(), Chapter(1, 1))
-        self.assertEqual(sorted(os.listdir(self.path / "traces")), [f"chapter-{number}.json" for number in range(3)])
+        self.assertEqual(chapters_in(self.path / "traces"), [f"chapter-{number}.json" for number in range(3)])
         told = [json.loads((self.path / "traces" / f"chapter-{number}.json").read_text()) for number in range(3)]
         kinds = [[entry[0] for entry in chapter["entries"]] for chapter in told]
         self.assertEqual(kinds, [["take", "tick"], ["tick"], []])
@@ -271,14 +276,14 @@ class Programs:
                 with self.subTest(kind=kind), self.assertRaises(FileFailed) as caught:
                     self.open(kind, "row", [0], traces=folder)
                 self.assertIn("in use by another fleet", str(caught.exception))
-        self.assertEqual(os.listdir(folder), ["chapter-0.json"])
+        self.assertEqual(chapters_in(folder), ["chapter-0.json"])
         for name, why in ((folder, "has chapters of another fleet"), (self.path / "none", "cannot be written")):
             with self.assertRaises(FileFailed) as caught:
                 self.fleet("row", [0], traces=name)
             self.assertIn(why, str(caught.exception))
         with self.assertRaises(OutOfRange):
             self.fleet("row", [0], traces="")
-        self.assertEqual(os.listdir(folder), ["chapter-0.json"])
+        self.assertEqual(chapters_in(folder), ["chapter-0.json"])
 
     def test_goes_on(self):
         words = dict(clients=2, traces=self.traces(), resume=True, queue=3)
@@ -335,7 +340,7 @@ class Programs:
         (folder / "chapter-00.json").rename(folder / "chapter-2.json")
         (folder / "chapter-0.json").write_text(text)
         fails("chapter-1.json: it is missing")
-        self.assertEqual(sorted(os.listdir(folder)), ["chapter-0.json", "chapter-2.json"])
+        self.assertEqual(chapters_in(folder), ["chapter-0.json", "chapter-2.json"])
         with self.assertRaises(OutOfRange):
             self.fleet("ring", [0, 3], resume=True)
 
@@ -443,7 +448,7 @@ class Alike(Folder):
             for _ in range(60):
                 heard += [self.told(draw.choice(calls)), fleet.arrivals, fleet.farewells, fleet.cells]
             heard += [self.told(errand.arrived) for errand in errands] + [errand.state for errand in errands]
-        return heard, fleet.status, {name: (folder / name).read_bytes() for name in sorted(os.listdir(folder))}
+        return heard, fleet.status, {name: (folder / name).read_bytes() for name in chapters_in(folder)}
 
     def test_alike(self):
         kinds = set()
