@@ -1,6 +1,6 @@
 //! How much memory the value of a text in JSON takes.
 
-/// The memory of a value is at most so many times the length of its text, and `FREE` bytes more.
+/// The memory of a value is at most this many times the length of its text, and `FREE` bytes more.
 const MOST_TIMES: usize = 32;
 
 const FREE: usize = 1_048_576;
