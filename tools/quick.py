@@ -4,6 +4,7 @@
 folder, and compiles that without optimisation. Here the bitcode is kept as soon as it is written, `rt` is ended, and
 the kit's own clang compiles the bitcode at -O2.
 """
+import contextlib
 import datetime
 import functools
 import os
@@ -69,13 +70,12 @@ def drop_hint(tool):
 
 def keep_bitcode(tmp, kept):
     """Links the bitcode as `kept`, if it is in the folder `tmp` and whole."""
-    for path in tmp.rglob("module.bc"):
-        try:
+    # A folder may be gone before it is read, as long as the translation works.
+    with contextlib.suppress(FileNotFoundError):
+        for path in tmp.rglob("module.bc"):
             # It is whole once clang has begun to make an object file of it.
             if any(path.parent.glob("module*.o*")) and path.stat().st_size >= SMALLEST:
                 os.link(path, kept)
-        except FileNotFoundError:
-            pass
 
 
 def bitcode(crate, room, tests=False):

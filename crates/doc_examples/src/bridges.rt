@@ -1,10 +1,11 @@
 //! Callers of `fleet_bridge`.
 
-ghost use Rattle.std.specs.Prelude.{◌↔◌, IfOk, IsTrue};
+ghost use Rattle.std.specs.Prelude.{ℕ, ◌≤◌, ◌↔◌, IfOk, IfSome, IsTrue};
 ghost use Rattle.fleet_grid.specs.Floor.{IsFloor, IsNeighbour};
 ghost use Rattle.fleet_grid.specs.Walk.{IsBridgeless, IsRoomy};
+ghost use Rattle.fleet_bridge.specs.Rooms.{IsServed};
 
-use fleet_bridge::{first_bridge, roominess};
+use fleet_bridge::{first_bridge, roominess, rooms_of, rooms_serve};
 use fleet_grid::Grid;
 use std::alloc::{AllocError, Global};
 
@@ -25,4 +26,18 @@ pub fn is_roomy(alloc: Global, grid: &Grid, cell: u32, robots: u32) -> Result<bo
 {
     let most = roominess(alloc, grid)?;
     Ok(robots <= most[cell as usize])
+}
+
+/// For how many robots all cells of the cell's part are served, and so this one: it is roomy for them, or in a room whose
+/// mouth is roomy for them without the room.
+pub fn served_robots(alloc: Global, grid: &Grid, cell: u32) -> Result<Option<u32>, AllocError>
+    requires { IsFloor grid.now cell }
+    ensures { IfOk result (λ found. IfSome found (λ most. (n : ℕ) → n ≤ most → IsServed (IsNeighbour grid.now) n cell)) }
+{
+    let found = rooms_of(alloc, grid)?;
+    rooms_serve();
+    match found {
+        Some(rooms) => Ok(Some(rooms.capacity(cell))),
+        None => Ok(None),
+    }
 }

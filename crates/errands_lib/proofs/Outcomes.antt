@@ -1,11 +1,18 @@
 -- What the program says of what it was given.
-use Rattle.std.proofs.Common.{◌≡◌, ◌↔◌, ℕ, suc, Bool, List, [], ◌∷◌, map, length, Result, Ok, Err, refl, sym, ap, subst, ◌∙◌}
-use Rattle.std.specs.Prelude.{IfOk}
+use Rattle.std.proofs.Common.{◌≡◌, ◌↔◌, ℕ, zero, suc, ◌+◌, ◌<◌, ◌≤◌, Bool, true, false, ◌||◌, List, [], ◌∷◌, ◌++◌, length, drop, get_or, map, Result, Ok, Err, refl, sym, ap, subst, ◌∙◌, arith}
+use Rattle.std.proofs.lemmas.List.{drop_more}
+use Rattle.std.specs.Prelude.{IfOk, replicate}
+use Rattle.std.specs.List.{list_any}
 use Rattle.std.specs.declared.alloc.AllocError.{AllocError}
 use Rattle.std.specs.declared.alloc.Global.{Global}
 use Rattle.fleet_grid.specs.Floor.{Floor}
 use Rattle.fleet_book.specs.declared.event.Event.{Event}
 use Rattle.fleet_world.specs.declared.reply.Reply.{Reply}
+use Rattle.fleet_core.specs.Core.{World}
+use Rattle.fleet_text.specs.Output.{is_limit_met}
+use Rattle.fleet_world.specs.declared.answered.Answered.{Answered}
+use Rattle.fleet_world.specs.Answers.{replies_in}
+use Rattle.fleet_world.specs.Played.{IsPlayed}
 use Rattle.fleet_world.specs.Run.{State, Run, opened_state}
 use Rattle.fleet_world.specs.Laws.{KeepsRings, KeepsEachRing}
 use Rattle.fleet_world.proofs.RunLaws.{end-once}
@@ -38,12 +45,35 @@ use Rattle.fleet_script.specs.Shown.{FailsAt}
 use Rattle.fleet_script.specs.declared.script.ScriptFault.{ScriptFault}
 use Rattle.fleet_script.specs.declared.script.ScriptFault.TheVariants as script_fault
 
--- a run has a reply for each event
-pub run_length : {A : Type 0} (s t : State A) (events : List Event) (replies : List Reply) → Run s events replies t → length replies ≡ length events
-run_length s t [] [] r = refl
-run_length s t (e ∷ es) (x ∷ xs) r = ap suc (run_length r.0 t es xs r.2)
-run_length s t [] (x ∷ xs) r = absurd r
-run_length s t (e ∷ es) [] r = absurd r
+-- a limit was met at one of these events, by the answers
+any_times : (n : ℕ) (x : Reply) (xs : List Reply) → 1 ≤ n → list_any is_limit_met (replicate n x ++ xs) ≡ (is_limit_met x || list_any is_limit_met xs)
+any_times zero x xs some = absurd (omega (arith, some))
+any_times (suc zero) x xs some = refl
+any_times (suc (suc n)) x xs some =
+    let more = any_times (suc n) x xs (omega arith) in
+    ap (λ b. is_limit_met x || b) more ∙ twice (is_limit_met x) (list_any is_limit_met xs)
+  where
+    twice : (a b : Bool) → (a || (a || b)) ≡ (a || b)
+    twice true b = refl
+    twice false b = refl
+
+-- from one answer on
+pub any_next : (answers : List Answered) (k : ℕ) (a : Answered) → k < length answers → get_or answers k a ≡ a
+    → list_any is_limit_met (replies_in (drop k answers)) ≡ (is_limit_met a.reply || list_any is_limit_met (replies_in (drop (k + 1) answers)))
+any_next answers k a less read =
+    ap (λ l. list_any is_limit_met (replies_in l)) (drop_more answers k a less ∙ ap (λ (x : Answered). x ∷ drop (k + 1) answers) read)
+    ∙ any_times a.times a.reply (replies_in (drop (k + 1) answers)) a.some
+
+-- at an answer at which a limit was met, and at another
+pub any_met : (answers : List Answered) (k : ℕ) (a : Answered) (all : Bool) → k < length answers → get_or answers k a ≡ a → is_limit_met a.reply ≡ true
+    → list_any is_limit_met (replies_in (drop k answers)) ≡ all → true ≡ all
+any_met answers k a all less read met before =
+    ap (λ b. b || list_any is_limit_met (replies_in (drop (k + 1) answers))) (sym met) ∙ (sym (any_next answers k a less read) ∙ before)
+
+pub any_passed : (answers : List Answered) (k : ℕ) (a : Answered) (all : Bool) → k < length answers → get_or answers k a ≡ a → is_limit_met a.reply ≡ false
+    → list_any is_limit_met (replies_in (drop k answers)) ≡ all → list_any is_limit_met (replies_in (drop (k + 1) answers)) ≡ all
+any_passed answers k a all less read not_met before =
+    ap (λ b. b || list_any is_limit_met (replies_in (drop (k + 1) answers))) (sym not_met) ∙ (sym (any_next answers k a less read) ∙ before)
 
 -- what is said is such an outcome
 pub said_is : (P : Outcome → Type 0) (r : Result Said AllocError) (o : Outcome) → IfOk r (λ s. said s ≡ o) → P o → IfOk r (λ s. P (said s))
@@ -85,6 +115,15 @@ ran_is kit laws m g p trace called shown replies last e f d l opens r lawful = r
   lawful = lawful;
   said = ap (λ (x : List Event). run_outcome replies (run_output trace x replies last.world)) d;
 })
+
+-- what is said of a run of lines that left the world so
+pub played_is : (kit : KitLaws) (laws : HookLaws) (m g : Floor) (p : Plan) (trace : Bool) (called shown : List Event) (replies : List Reply) (w : World Global) → g ≡ m → called ≡ p.events → shown ≡ called → laws ≡ chosen_laws kit p
+    → ((f : OpenFault) → IsRefused g p.starts p.clients p.limits laws f → ⊥)
+    → IsPlayed (opened_state g p.starts p.clients p.limits laws) called replies w → IsScriptOutcome kit trace m p (run_outcome replies (run_output trace shown replies w))
+played_is kit laws m g p trace called shown replies w e f d l opens r =
+    let lawful = lawful_is m g r.last e r.same.floor r.legal r.rings r.each_ring r.arrivals r.numbers r.numbered r.conflicts r.closes r.planned r.advancing in
+    subst (λ (x : World Global). IsScriptOutcome kit trace m p (run_outcome replies (run_output trace shown replies x))) r.world
+    (ran_is kit laws m g p trace called shown replies r.last e f (d ∙ f) l opens r.run lawful)
 
 -- a world that was opened was not to be refused
 pub none_refused : {P : Type 0} (m : Floor) (starts : List ℕ) (clients : ℕ) (limits : Limits) (laws : HookLaws) (r : Result P RunFault) (played : P) → r ≡ Ok played

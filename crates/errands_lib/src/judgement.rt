@@ -13,7 +13,7 @@ ghost use Rattle.fleet_text.specs.declared.said.Complaint.{Complaint};
 use fleet_grid::Grid;
 use fleet_history::Chapter;
 use fleet_map::{MapText, read_map};
-use fleet_text::{Complaint, Said, faulty, map_complaint};
+use fleet_text::{Complaint, Said, faulty, map_complaint, whole};
 use fleet_trace::{JudgeFault, TraceFault, judge, read_trace};
 use std::alloc::{AllocError, Global};
 
@@ -33,7 +33,7 @@ fn illegal(alloc: Global, at: u64, rule: u8) -> Result<Said, AllocError>
     ensures { IfOk result (λ s. said s ≡ illegal_at at rule) }
 {
     Ok(Said {
-        output: format!(in alloc; "illegal {at} {rule}\n")?,
+        output: whole(alloc, format!(in alloc; "illegal {at} {rule}\n")?)?,
         status: 6,
         complaint: String::new(alloc),
     })
@@ -44,7 +44,7 @@ fn legal(alloc: Global) -> Result<Said, AllocError>
     ensures { IfOk result (λ s. said s ≡ good (codes "legal\n")) }
 {
     Ok(Said {
-        output: String::from_str(alloc, "legal\n")?,
+        output: whole(alloc, String::from_str(alloc, "legal\n")?)?,
         status: 0,
         complaint: String::new(alloc),
     })

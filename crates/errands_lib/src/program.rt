@@ -11,7 +11,8 @@ use crate::answer::answer;
 use crate::job::Job;
 use crate::service::answer_job;
 use fleet_text::{
-    Complaint, HookKit, InputFault, Said, failure_line, read_other, read_whole, write_whole,
+    Complaint, HookKit, InputFault, Said, failure_line, read_other, read_whole, write_pieces,
+    write_whole,
 };
 use std::alloc::{Alloc, Global};
 use std::io::{Read, Write};
@@ -30,7 +31,7 @@ pub fn fail<E: Write>(fault: InputFault, error: &mut E) -> u8
 fn tell<W: Write, E: Write>(said: &Said, output: &mut W, error: &mut E) -> u8
     ensures { IsTold (said_of said.now) (W.contents output.old) (W.contents output.new) (E.contents error.old) (E.contents error.new) result }
 {
-    if !write_whole(output, said.output.as_bytes()) {
+    if !write_pieces(output, said.output.as_slice()) {
         return fail(InputFault::File, error);
     }
     write_whole(error, said.complaint.as_bytes());

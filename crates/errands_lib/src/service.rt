@@ -10,6 +10,7 @@ ghost use Rattle.fleet_history.specs.Legal.{IsLegal};
 ghost use Rattle.fleet_trace.specs.Trace.{trace_of};
 ghost use Rattle.fleet_trace.specs.Text.{trace_text};
 ghost use Rattle.fleet_serve.specs.Posted.{IsLine};
+ghost use Rattle.fleet_script.specs.Runs.{runs_plan};
 ghost use Rattle.fleet_script.specs.Shown.{plan};
 ghost use Rattle.fleet_text.specs.Kit.{kit_laws};
 ghost use Rattle.errands_lib.specs.Answer.{limited};
@@ -22,9 +23,9 @@ use crate::texts::ended;
 use fleet_grid::Grid;
 use fleet_history::Chapter;
 use fleet_map::{MapText, read_map};
-use fleet_script::{Script, ScriptFault, read_script};
-use fleet_serve::{Gate, ServeFault, Served, first_other, serve};
-use fleet_text::{Complaint, HookKit, Said, faulty, map_complaint, trace_line};
+use fleet_script::{Script, ScriptFault, ScriptRuns, read_runs};
+use fleet_serve::{Gate, ServeFault, Served, first_other_line, serve};
+use fleet_text::{Complaint, HookKit, Said, faulty, map_complaint, trace_line, whole};
 use fleet_trace::{JudgeFault, judge};
 use std::alloc::{Alloc, AllocError, Global};
 use std::sync::Wait;
@@ -68,7 +69,7 @@ fn served_text(alloc: Global, grid: &Grid, served: &Served) -> Result<Said, Allo
 {
     let chapter = &served.last.chapter;
     judge_served(alloc, grid, chapter)?;
-    let output = trace_line(alloc, chapter)?;
+    let output = whole(alloc, trace_line(alloc, chapter)?)?;
     ended(alloc, served.lane_full > 0, output)
 }
 
@@ -142,21 +143,24 @@ fn serve_lines<R: Alloc<A = Global> + Threads + Sync + Wait>(
 fn serve_script<R: Alloc<A = Global> + Threads + Sync + Wait>(
     rt: &R,
     map: MapText,
-    script: &Script,
+    script: ScriptRuns,
     kit: HookKit,
 ) -> Result<Said, AllocError>
     requires { HasSides (view map) }
-    ensures { IfOk result (λ s. IsServedScript (kit_laws kit) (floor_of_map (view map)) (plan script.now) (said s)) }
+    ensures { IfOk result (λ s. IsServedScript (kit_laws kit) (floor_of_map (view map)) (runs_plan script) (said s)) }
 {
-    let Some(at) = first_other(script) else {
-        return serve_lines(rt, map, script, kit);
-    };
-    drop(kit);
-    // Each event has its line, so no call ends here.
-    if at >= script.lines.len() {
-        return Err(AllocError);
+    if let Some(line) = first_other_line(&script) {
+        drop(kit);
+        return faulty(rt.alloc(), Complaint::Script(line));
     }
-    faulty(rt.alloc(), Complaint::Script(script.lines[at]))
+    // Each event stands on a line of its own, so this list is no longer than the script.
+    match script.unrolled(rt.alloc()) {
+        Ok(script) => serve_lines(rt, map, &script, kit),
+        Err(AllocError) => {
+            drop(kit);
+            Err(AllocError)
+        }
+    }
 }
 
 /// The answer to a script that is to be served on a map that was read.
@@ -170,8 +174,8 @@ fn answer_script<R: Alloc<A = Global> + Threads + Sync + Wait>(
     requires short { length script.now ≤ 16777216 }
     ensures { (text : List ℕ) → map_of text ≡ Ok (view map) → IfOk result (λ s. IsServeOutcome (kit_laws kit) text script.now (said s)) }
 {
-    match read_script(rt.alloc(), script) {
-        Ok(script) => serve_script(rt, map, &script, kit),
+    match read_runs(rt.alloc(), script) {
+        Ok(script) => serve_script(rt, map, script, kit),
         Err(fault) => {
             drop(kit);
             match fault {

@@ -10,24 +10,31 @@ ghost use Rattle.fleet_text.specs.Output.{is_limit_met};
 ghost use Rattle.errands_lib.specs.Answer.{IsBundleOutcome, IsMapOutcome, IsDescribed, IsPartsOutcome, IsScriptOutcome, IsUnplayed, limited, run_output, run_outcome};
 ghost use Rattle.fleet_text.specs.Kit.{kit_laws};
 ghost use Rattle.fleet_text.specs.Said.{said};
-ghost use Rattle.fleet_script.specs.Shown.{plan};
+ghost use Rattle.fleet_script.specs.Runs.{runs_plan};
+ghost use Rattle.fleet_text.specs.Pieces.{pieces_text};
+ghost use Rattle.fleet_world.specs.Answers.{events_in, replies_in};
 ghost use Rattle.fleet_text.specs.declared.said.Complaint.{Complaint};
 
 use fleet_grid::Grid;
 use fleet_map::{MapText, read_map};
-use fleet_script::{Script, ScriptFault, read_script, split_bundle};
+use fleet_script::{ScriptFault, ScriptRuns, read_runs, split_bundle};
 use fleet_text::{
-    Complaint, HookKit, Said, faulty, is_limit_met, line_of, map_complaint, map_report, report,
-    trace_line,
+    Complaint, HookKit, Piece, Said, faulty, is_limit_met, line_of, map_complaint, map_report,
+    report, trace_line, whole,
 };
-use fleet_world::{Event, OpenFault, Played, Reply, RunFault, run};
+use fleet_world::{Answered, OpenFault, PlayedLines, RunFault, run_lines};
 use std::alloc::{Alloc, AllocError, Global};
 
 /// Whether a limit was met at any event.
-fn meets_limit(replies: &[Reply]) -> bool
-    ensures { result ≡ list_any is_limit_met replies.now }
+fn meets_limit(answers: &[Answered]) -> bool
+    ensures { result ≡ list_any is_limit_met (replies_in answers.now) }
 {
-    replies.iter().any(|reply| is_limit_met(*reply))
+    for at in 0..answers.len() {
+        if is_limit_met(answers[at].reply) {
+            return true;
+        }
+    }
+    false
 }
 
 /// The complaint about a world that was not opened for this reason; an error for out of memory.
@@ -42,30 +49,19 @@ fn opening_complaint(fault: OpenFault) -> Result<Complaint, AllocError>
 }
 
 /// The output of a run: its trace, or its lines.
-fn output_of(
-    alloc: Global,
-    trace: bool,
-    events: &[Event],
-    played: &Played,
-) -> Result<String, AllocError>
-    requires { length played.now.replies.items ≡ length events.now }
-    ensures { IfOk result (λ s. string_bytes s ≡ run_output trace events.now played.now.replies.items played.now.world.core) }
+fn output_of(alloc: Global, trace: bool, played: &PlayedLines) -> Result<Vec<Piece>, AllocError>
+    ensures { IfOk result (λ pieces. pieces_text pieces.items ≡ run_output trace (events_in played.now.answers.items) (replies_in played.now.answers.items) played.now.world.core) }
 {
     let chapter = played.world.chapter();
     if trace {
-        return trace_line(alloc, chapter);
+        return whole(alloc, trace_line(alloc, chapter)?);
     }
-    report(
-        alloc,
-        events,
-        played.replies.as_slice(),
-        chapter.entries.as_slice(),
-    )
+    report(alloc, played.answers.as_slice(), chapter.entries.as_slice())
 }
 
 /// The answer for a run or a serve with this output, with the status for whether a limit was met.
-pub(crate) fn ended(alloc: Global, met: bool, output: String) -> Result<Said, AllocError>
-    ensures { IfOk result (λ s. said s ≡ limited met (string_bytes output)) }
+pub(crate) fn ended(alloc: Global, met: bool, output: Vec<Piece>) -> Result<Said, AllocError>
+    ensures { IfOk result (λ s. said s ≡ limited met (pieces_text output.items)) }
 {
     if met {
         return Ok(Said {
@@ -82,30 +78,18 @@ pub(crate) fn ended(alloc: Global, met: bool, output: String) -> Result<Said, Al
 }
 
 /// The answer for a run that was made.
-fn played_text(
-    alloc: Global,
-    trace: bool,
-    events: &[Event],
-    played: &Played,
-) -> Result<Said, AllocError>
-    requires { length played.now.replies.items ≡ length events.now }
-    ensures { IfOk result (λ s. said s ≡ run_outcome played.now.replies.items (run_output trace events.now played.now.replies.items played.now.world.core)) }
+fn played_text(alloc: Global, trace: bool, played: &PlayedLines) -> Result<Said, AllocError>
+    ensures { IfOk result (λ s. said s ≡ run_outcome (replies_in played.now.answers.items) (run_output trace (events_in played.now.answers.items) (replies_in played.now.answers.items) played.now.world.core)) }
 {
-    let output = output_of(alloc, trace, events, played)?;
-    ended(alloc, meets_limit(played.replies.as_slice()), output)
+    let output = output_of(alloc, trace, played)?;
+    ended(alloc, meets_limit(played.answers.as_slice()), output)
 }
 
 /// The answer for a run that was made; drops its world.
-fn ended_text(
-    alloc: Global,
-    trace: bool,
-    events: &[Event],
-    played: Played,
-) -> Result<Said, AllocError>
-    requires { length played.replies.items ≡ length events.now }
-    ensures { IfOk result (λ s. said s ≡ run_outcome played.replies.items (run_output trace events.now played.replies.items played.world.core)) }
+fn ended_text(alloc: Global, trace: bool, played: PlayedLines) -> Result<Said, AllocError>
+    ensures { IfOk result (λ s. said s ≡ run_outcome (replies_in played.answers.items) (run_output trace (events_in played.answers.items) (replies_in played.answers.items) played.world.core)) }
 {
-    let told = played_text(alloc, trace, events, &played);
+    let told = played_text(alloc, trace, &played);
     let _ended = played.world.finish();
     told
 }
@@ -124,26 +108,25 @@ fn unplayed(alloc: Global, fault: RunFault) -> Result<Said, AllocError>
 fn run_script<R: Alloc<A = Global>>(
     rt: &R,
     map: MapText,
-    script: Script,
+    script: ScriptRuns,
     kit: HookKit,
     trace: bool,
 ) -> Result<Said, AllocError>
     requires { HasSides (view map) }
-    ensures { IfOk result (λ s. IsScriptOutcome (kit_laws kit) trace (floor_of_map (view map)) (plan script) (said s)) }
+    ensures { IfOk result (λ s. IsScriptOutcome (kit_laws kit) trace (floor_of_map (view map)) (runs_plan script) (said s)) }
 {
     let grid = Grid::new(map)?;
-    let Script {
+    let ScriptRuns {
         starts,
         clients,
         limits,
         south,
-        events,
+        runs,
         turns: _,
-        lines: _,
     } = script;
     let hooks = kit.choose(south).cut(starts.len());
-    match run(rt, grid, starts, clients, limits, hooks, &events) {
-        Ok(played) => ended_text(rt.alloc(), trace, &events, played),
+    match run_lines(rt, grid, starts, clients, limits, hooks, &runs) {
+        Ok(played) => ended_text(rt.alloc(), trace, played),
         Err(fault) => unplayed(rt.alloc(), fault),
     }
 }
@@ -160,7 +143,7 @@ fn answer_script<R: Alloc<A = Global>>(
     requires short { length script.now ≤ 16777216 }
     ensures { (text : List ℕ) → map_of text ≡ Ok (view map) → IfOk result (λ s. IsPartsOutcome (kit_laws kit) trace text script.now (said s)) }
 {
-    match read_script(rt.alloc(), script) {
+    match read_runs(rt.alloc(), script) {
         Ok(script) => run_script(rt, map, script, kit, trace),
         Err(ScriptFault::NoMemory) => Err(AllocError),
         Err(ScriptFault::Line(line)) => faulty(rt.alloc(), Complaint::Script(line)),
@@ -209,7 +192,7 @@ fn describe_map(alloc: Global, map: MapText) -> Result<Said, AllocError>
 {
     let grid = Grid::new(map)?;
     Ok(Said {
-        output: map_report(alloc, &grid)?,
+        output: whole(alloc, map_report(alloc, &grid)?)?,
         status: 0,
         complaint: String::new(alloc),
     })

@@ -50,7 +50,7 @@ ended_before_turn run t r p q e lawful p_in free next follows q_in early leaves 
         ]
 
 -- a robot that may begin alone turns in no cycle
-alone_never_turns : (run : Run) (r t : ℕ) → IsLawful run → r < run.plan.robots → MayBeginAlone run r t → Turns run.plan t r → ⊥
+pub alone_never_turns : (run : Run) (r t : ℕ) → IsLawful run → r < run.plan.robots → MayBeginAlone run r t → Turns run.plan t r → ⊥
 alone_never_turns run r t lawful inside may turns =
     let before = before_it run.plan t r turns in
     let ended = may.clear before.robot t before.is.inside (omega arith) before.is.follows.leaves in

@@ -85,3 +85,10 @@ no_bridge m a next dir n none b at bridge = none (subst (IsBridge (IsNeighbour m
 -- and so the two ends have one top
 pub one_top : (m : Floor) (top : ℕ → ℕ) (cell next : ℕ) (dir : Dir) (x y : ℕ) → x ≡ top cell → y ≡ top next → IsNeighbourIn m dir cell next → x == y ≡ true → (d : ℕ) → IsNeighbourIn m dir cell d → top cell ≡ top d
 one_top m top cell next dir x y ex ey n same d at = sym ex ∙ (eqb-true x y same ∙ (ey ∙ ap top (beside_once m.width dir cell next d n.beside at.beside)))
+
+-- each place's number by a function, with one more
+pub more_by : (f : ℕ → ℕ) (old more : List ℕ) (n : ℕ) → length old ≡ n → more ≡ old ++ f n ∷ [] → ((k : ℕ) → k < n → slice_index old k ≡ f k) → (k : ℕ) → k < n + 1 → slice_index more k ≡ f k
+more_by f old more n size e each k below = ap (λ (xs : List ℕ). slice_index xs k) e ∙ elim (cases_eq k n) [
+  | inl is ↦ get_or_push old (f n) 0 k (size ∙ sym is) ∙ ap f (sym is)
+  | inr ne ↦ (let less : k < n = omega (arith, below, ne) in get_or-append old (f n ∷ []) 0 k (omega (arith, less, size)) ∙ each k less)
+]

@@ -1,7 +1,7 @@
 -- The list of all bridges, grown by one cell after another.
 use Rattle.std.proofs.Common.{◌≡◌, ℕ, ◌+◌, ◌<◌, ◌≤◌, ◌⊎◌, inl, inr, List, [], ◌∷◌, ◌++◌, length, get_or, refl, sym, subst, ◌∙◌, arith}
-use Rattle.std.specs.Prelude.{◌↔◌, slice_index, Option, MatchOption, Some, None}
-use Rattle.std.specs.List.{AllPairs, Contains}
+use Rattle.std.specs.Prelude.{slice_index, Option, MatchOption, Some, None}
+use Rattle.std.specs.List.{Contains}
 use Rattle.std.proofs.lemmas.Bool.{cases_lt}
 use Rattle.std.proofs.lemmas.Nat.{mod_below}
 use Rattle.std.proofs.lemmas.List.{append-nil}

@@ -1,6 +1,7 @@
 -- What only proofs and private functions use.
 pub mod Capped
 pub mod First
+pub mod Housed
 pub mod Listed
 pub mod Places
 pub mod Preorder

@@ -32,7 +32,15 @@ fn is_heavy<A: Allocator + Copy>(tree: &Tree<A>, cell: u32) -> bool {
     hangs(tree, cell) && size(tree, cell) > size(tree, read(&tree.top, cell)) / 2
 }
 
-/// For the root of each part the last cell in preorder whose subtree is heavy, or the root where none is. Below that
+/// Gives each cell what the root of its part has: roots come before the other cells in the order.
+pub(crate) fn hand_down<A: Allocator + Copy>(tree: &Tree<A>, roots: &mut Vec<u32, A>) {
+    for cell in tree.order.iter() {
+        let root = read(roots, read(&tree.top, *cell));
+        write(roots, *cell, root);
+    }
+}
+
+/// For each cell the last cell of its part in preorder whose subtree is heavy, or the root where none is. Below that
 /// cell no subtree is heavy, and seen from there nor is what lies above it.
 fn heavy_roots<A: Allocator + Copy>(
     alloc: A,
@@ -45,10 +53,11 @@ fn heavy_roots<A: Allocator + Copy>(
             write(&mut roots, read(&tree.top, *cell), *cell);
         }
     }
+    hand_down(tree, &mut roots);
     Ok(roots)
 }
 
-/// For the root of each part the root with which no subtree is heavy; an empty list if all are so already.
+/// For each cell the root of its part with which no subtree is heavy; an empty list if all are so already.
 pub(crate) fn light_roots<A: Allocator + Copy>(
     alloc: A,
     tree: &Tree<A>,

@@ -3,46 +3,8 @@
 ghost use Rattle.std.specs.Prelude.{ℕ, ◌<◌, IfOk};
 ghost use Rattle.fleet_bridge.specs.inside.Tree.{AreUnder};
 
-use crate::growth::Growth;
 use crate::numbers::{own_numbers, read, write};
-use crate::sides::Sides;
-use fleet_grid::Dir;
-use std::alloc::{AllocError, Allocator, Global};
-
-/// The number of the neighbour in a direction, if the edge to it is off the tree.
-#[inline(always)]
-fn reach_beside<A: Allocator + Copy, B: Allocator + Copy>(
-    sides: &Sides<'_, B>,
-    up: &Vec<u32, A>,
-    number: &Vec<u32, A>,
-    cell: u32,
-    dir: Dir,
-) -> Option<u32> {
-    let next = sides.beside(cell, dir)?;
-    if read(up, cell) == next {
-        return None;
-    }
-    if read(up, next) == cell {
-        return None;
-    }
-    Some(read(number, next))
-}
-
-/// The least number that an edge off the tree reaches from the cell, its own counted too.
-fn reach<A: Allocator + Copy, B: Allocator + Copy>(
-    sides: &Sides<'_, B>,
-    up: &Vec<u32, A>,
-    number: &Vec<u32, A>,
-    cell: u32,
-) -> u32 {
-    let mut least = read(number, cell);
-    for dir in Dir::ALL {
-        if let Some(far) = reach_beside(sides, up, number, cell, dir) {
-            least = least.min(far);
-        }
-    }
-    least
-}
+use std::alloc::{AllocError, Allocator};
 
 /// Gives the parent the reach of the child's subtree, with its cell, if that reaches further.
 #[inline(always)]
@@ -66,56 +28,35 @@ fn hand_up<A: Allocator + Copy>(
 /// Hands the furthest reach of each subtree up to the parent: children come after their parents in the order, so this
 /// goes backward.
 fn hand_all_up<A: Allocator + Copy>(
-    growth: &Growth<A>,
+    up: &Vec<u32, A>,
+    order: &Vec<u32, A>,
     far: &mut Vec<u32, A>,
     inner: &mut Vec<u32, A>,
     count: u32,
 )
-    requires { AreUnder growth.now.up.items count inner.old.items }
-    ensures { AreUnder growth.now.up.items count inner.new.items }
+    requires { AreUnder up.now.items count inner.old.items }
+    ensures { AreUnder up.now.items count inner.new.items }
 {
-    for cell in growth.order.iter().rev() {
+    for cell in order.iter().rev() {
         if *cell < count {
-            hand_up(&growth.up, far, inner, *cell);
+            hand_up(up, far, inner, *cell);
         }
     }
 }
 
-/// Each cell's own reach.
-fn reaches<A: Allocator + Copy, B: Allocator + Copy>(
-    alloc: A,
-    sides: &Sides<'_, B>,
-    up: &Vec<u32, A>,
-    number: &Vec<u32, A>,
-    count: u32,
-) -> Result<Vec<u32, A>, AllocError> {
-    let mut far = Vec::with_capacity(alloc, count as usize)?;
-    for cell in 0..count {
-        far.push_reserved(reach(sides, up, number, cell));
-    }
-    Ok(far)
-}
-
-/// For each cell the least number that its subtree reaches, and one of the subtree's cells that reaches it.
-#[derive(Drop)]
-pub(crate) struct Reached<A: Allocator + Copy = Global> {
-    pub(crate) far: Vec<u32, A>,
-    pub(crate) inner: Vec<u32, A>,
-}
-
-/// How far each subtree reaches.
+/// For each cell a cell of its subtree that reaches furthest. `far` has how far each cell reaches, and then how far its
+/// subtree does.
 #[tactic(auto, using(crate::proofs::Inner::under_own))]
-pub(crate) fn furthest<A: Allocator + Copy, B: Allocator + Copy>(
+pub(crate) fn furthest<A: Allocator + Copy>(
     alloc: A,
-    sides: &Sides<'_, B>,
-    growth: &Growth<A>,
-    number: &Vec<u32, A>,
+    up: &Vec<u32, A>,
+    order: &Vec<u32, A>,
+    far: &mut Vec<u32, A>,
     count: u32,
-) -> Result<Reached<A>, AllocError>
-    ensures { IfOk result (λ reached. AreUnder growth.now.up.items count reached.inner.items) }
+) -> Result<Vec<u32, A>, AllocError>
+    ensures { IfOk result (λ inner. AreUnder up.now.items count inner.items) }
 {
-    let mut far = reaches(alloc, sides, &growth.up, number, count)?;
     let mut inner = own_numbers(alloc, count)?;
-    hand_all_up(growth, &mut far, &mut inner, count);
-    Ok(Reached { far, inner })
+    hand_all_up(up, order, far, &mut inner, count);
+    Ok(inner)
 }

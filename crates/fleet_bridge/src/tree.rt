@@ -8,9 +8,9 @@ ghost use Rattle.fleet_grid.specs.Floor.{IsNeighbour, IsNeighbourIn};
 ghost use Rattle.fleet_bridge.specs.inside.Tree.{AreUnder};
 ghost use Rattle.fleet_bridge.specs.inside.Spanning.{IsFitIn, IsSpanning};
 
-use crate::growth::{Growth, Numbers, numbers_of, place_all};
+use crate::growth::{Growth, place_all};
 use crate::numbers::read;
-use crate::reach::{Reached, furthest};
+use crate::reach::furthest;
 use crate::sides::Sides;
 use fleet_grid::Dir;
 use std::alloc::{AllocError, Allocator, Global};
@@ -134,28 +134,32 @@ fn tree_of<A: Allocator + Copy, B: Allocator + Copy>(
 ) -> Result<Tree<A>, AllocError>
     ensures { IfOk result (λ tree. AreUnder tree.up.items count tree.low.items) }
 {
-    let growth = place_all(alloc, sides, roots, count)?;
-    let Numbers { number, end } = numbers_of(alloc, &growth, count)?;
-    let Reached { far, inner } = furthest(alloc, sides, &growth, &number, count)?;
     let Growth {
         placed: _,
+        left: _,
         up,
         top,
+        number,
+        end,
+        mut far,
+        below: _,
         order,
-    } = growth;
+        many: _,
+    } = place_all(alloc, sides, roots, count)?;
+    let low = furthest(alloc, &up, &order, &mut far, count)?;
     Ok(Tree {
         up,
         top,
         number,
         end,
         far,
-        low: inner,
+        low,
         order,
     })
 }
 
-/// The tree, and whether it passed its check. The list has for the first cell of each part the root that the part is to
-/// have; where the list is empty, that is the first cell.
+/// The tree, and whether it passed its check. The list has for each cell the root that its part is to have; where the
+/// list is empty, that is a cell with which no subtree that hangs has more than half of its part.
 pub(crate) fn spanning_tree<A: Allocator + Copy, B: Allocator + Copy>(
     alloc: A,
     sides: &Sides<'_, B>,

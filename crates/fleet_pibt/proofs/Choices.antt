@@ -7,6 +7,7 @@ use Rattle.std.proofs.lemmas.List.Elements.{All-get_or}
 use Rattle.std.proofs.lemmas.List.{get_or-map, get_or_default, length-map}
 use Rattle.fleet_grid.specs.Direction.{dir_number}
 use Rattle.fleet_grid.specs.Floor.{IsBeside, IsNeighbourIn}
+use Rattle.fleet_pibt.specs.Door.{IsOpen}
 use Rattle.fleet_pibt.specs.inside.Setting.{Setting, cell_of, near, cost, IsChoices}
 use Rattle.fleet_pibt.specs.Ties.{Undercuts}
 use Rattle.fleet_pibt.specs.inside.Candidate.{IsCandidate, IsAside, IsSmall, key_of, cell_in_key}
@@ -114,7 +115,7 @@ module _ (s : Setting) (wide : 0 < s.floor.width) (robot : ℕ) (old new : List 
       let m : k < length new = omega (arith, at-length) in
       elim ((at-is k m).kind) [
         | inl it ↦ inl (at-cell k m ∙ it.0)
-        | inr it ↦ inr (subst (λ (x : ℕ). near s (cell_of s robot) x) (sym (at-cell k m)) (it.dir, it.step))
+        | inr it ↦ inr (subst (λ (x : ℕ). near s (cell_of s robot) x) (sym (at-cell k m)) ((it.dir, it.step), it.passes))
       ]
 
   tries-all : (w : ℕ) → near s (cell_of s robot) w → (k : ℕ) × (k < length tries) × (slice_index tries k ≡ w)
@@ -167,10 +168,10 @@ module _ (s : Setting) (wide : 0 < s.floor.width) (robot : ℕ) (old new : List 
   at-first (suc k) l = at-upto 0 (suc k) (omega arith) l
 
   tries-tied : (law : TieLaw) → slice_get s.laws robot ≡ Some law → (d e : Dir) (b : ℕ) → IsNeighbourIn s.floor d (cell_of s robot) (slice_index tries 0) → IsNeighbourIn s.floor e (cell_of s robot) b →
-      cost s robot b ≤ cost s robot (slice_index tries 0) → Undercuts law e d → ⊥
-  tries-tied law is d e b step other le under =
+      IsOpen s.door (cell_of s robot) b → cost s robot b ≤ cost s robot (slice_index tries 0) → Undercuts law e d → ⊥
+  tries-tied law is d e b step other opens le under =
       let l0 : 0 < length new = omega arith in
-      let c = covers b (e, other) in
+      let c = covers b ((e, other), opens) in
       let m = at-of c.0 c.1 in
       let step' : IsNeighbourIn s.floor d (cell_of s robot) (at 0).cell = subst (λ (x : ℕ). IsNeighbourIn s.floor d (cell_of s robot) x) (at-cell 0 l0) step in
       let cell_m : (at m.0).cell ≡ b = ap (λ (x : Candidate). x.cell) m.2 ∙ c.2 in

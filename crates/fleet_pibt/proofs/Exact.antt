@@ -1,6 +1,6 @@
 -- No step enters a side where a robot stands on each cell, so only a robot with a way ahead comes nearer.
-use Rattle.std.proofs.Common.{◌≡◌, ◌≢◌, ◌↔◌, ℕ, zero, suc, ◌+◌, ◌<◌, inl, inr, eqb, false, List, [], length, map, get_or, slice_index, sym, subst, refl, ap, ◌∙◌, arith, zero-add}
-use Rattle.std.specs.Prelude.{Contains, Option, Some}
+use Rattle.std.proofs.Common.{◌≡◌, ◌≢◌, ◌↔◌, ℕ, zero, suc, ◌+◌, ◌<◌, inl, inr, eqb, false, List, [], length, map, get_or, slice_index, sym, subst, ap, ◌∙◌, arith, zero-add}
+use Rattle.std.specs.Prelude.{Contains, Option, Some, None}
 use Rattle.std.specs.List.{range_with_len}
 use Rattle.std.proofs.lemmas.Bool.{ne_eqb, cases_eq, cases_lt}
 use Rattle.std.proofs.lemmas.List.{get_or_default, length-map, get_or-map}
@@ -11,11 +11,14 @@ use Rattle.fleet_grid.specs.Walk.{Besides, IsDistance, IsOnSide}
 use Rattle.fleet_grid.proofs.Walks.{joined_on, joined_same, joined_by_edge}
 use Rattle.fleet_hooks.specs.declared.law.TieLaw.{TieLaw}
 use Rattle.fleet_pibt.specs.Advancing.{Advances, IsFullBeyond, HasWayAhead}
+use Rattle.fleet_pibt.specs.Door.{IsPassage, KeepToPassages, IsFullWithDoor}
 use Rattle.fleet_pibt.specs.Eldest.{IsEldest}
 use Rattle.fleet_pibt.specs.Goals.{IsNearer}
 use Rattle.fleet_pibt.specs.Stepped.{IsStepped}
+use Rattle.fleet_pibt.specs.declared.door.Door.{Door}
 use Rattle.fleet_pibt.proofs.Distances.{distance-unique}
-use Rattle.fleet_pibt.proofs.Roomy.{before-apart, few-cells, only-nearer}
+use Rattle.fleet_pibt.proofs.Doors.{full-from}
+use Rattle.fleet_pibt.proofs.Roomy.{few-cells, only-nearer}
 
 at_made : (f : ℕ → ℕ) (n i d : ℕ) → i < n → get_or (map f (range_with_len 0 n)) i d ≡ f i
 at_made f n i d l =
@@ -25,12 +28,13 @@ at_made f n i d l =
 length-made : (f : ℕ → ℕ) (n : ℕ) → length (map f (range_with_len 0 n)) ≡ n
 length-made f n = length-map (range_with_len 0 n) f ∙ length-range_with_len 0 n
 
-module _ (m : Floor) (from to : List ℕ) (step : IsConflictFree m from to) (e w : ℕ) (known : e < length from) (beyond : IsFullBeyond m from (slice_index from e) w) where
+module _ (m : Floor) (door : Option Door) (from to : List ℕ) (step : IsConflictFree m from to) (passes : KeepToPassages m door from to)
+    (e w : ℕ) (known : e < length from) (beyond : IsFullWithDoor m door from (slice_index from e) w) where
   abbrev own : ℕ
   own = slice_index from e
 
   abbrev Side : ℕ → Type 0
-  Side = IsOnSide (IsNeighbour m) own w
+  Side = IsOnSide (IsPassage m door) own w
 
   -- no two robots go to one cell
   unique : (i j : ℕ) → i < length from → j < length from → slice_index to i ≡ slice_index to j → i ≡ j
@@ -49,7 +53,7 @@ module _ (m : Floor) (from to : List ℕ) (step : IsConflictFree m from to) (e w
     side : Side (slice_index from robot)
 
   off : (b : Beyond) → slice_index from b.robot ≡ own → ⊥
-  off b is = before-apart m own w beyond.bridge (subst Side is b.side)
+  off b is = beyond.apart (subst Side is b.side)
 
   not_e : (b : Beyond) → e ≡ b.robot → ⊥
   not_e b is = off b (ap (slice_index from) (sym is))
@@ -73,12 +77,12 @@ module _ (m : Floor) (from to : List ℕ) (step : IsConflictFree m from to) (e w
 
     -- who stands on that side stays on it
     stays : (b : Beyond) → Side (slice_index to b.robot)
-    stays b = elim (step.moves b.robot b.small) [
+    stays b = elim (passes b.robot b.small) [
       | inl same ↦ subst Side (sym same) b.side
       | inr near ↦ (
-          let edge : Besides (IsNeighbour m) own w (slice_index from b.robot) (slice_index to b.robot) = record { near = near; there = λ is _. off b is; back = swapless b } in
-          joined_on (Besides (IsNeighbour m) own w) w (slice_index from b.robot) (slice_index to b.robot) b.side
-          (joined_by_edge (Besides (IsNeighbour m) own w) (slice_index from b.robot) (slice_index to b.robot) (slice_index to b.robot) edge (joined_same (Besides (IsNeighbour m) own w) (slice_index to b.robot))))
+          let edge : Besides (IsPassage m door) own w (slice_index from b.robot) (slice_index to b.robot) = record { near = near; there = λ is _. off b is; back = swapless b } in
+          joined_on (Besides (IsPassage m door) own w) w (slice_index from b.robot) (slice_index to b.robot) b.side
+          (joined_by_edge (Besides (IsPassage m door) own w) (slice_index from b.robot) (slice_index to b.robot) (slice_index to b.robot) edge (joined_same (Besides (IsPassage m door) own w) (slice_index to b.robot))))
     ]
 
     -- the robot whose cell the robot takes
@@ -86,7 +90,7 @@ module _ (m : Floor) (from to : List ℕ) (step : IsConflictFree m from to) (e w
     next b = standing (slice_index to b.robot) (stays b)
 
     chain : ℕ → Beyond
-    chain zero = standing w (joined_same (Besides (IsNeighbour m) own w) w)
+    chain zero = standing w (joined_same (Besides (IsPassage m door) own w) w)
     chain (suc k) = next (chain k)
 
     abbrev cell : ℕ → ℕ
@@ -94,7 +98,7 @@ module _ (m : Floor) (from to : List ℕ) (step : IsConflictFree m from to) (e w
 
     first_cell : cell zero ≡ w
     unfolding chain standing
-    first_cell = standing-at w (joined_same (Besides (IsNeighbour m) own w) w)
+    first_cell = standing-at w (joined_same (Besides (IsPassage m door) own w) w)
 
     next_cell : (k : ℕ) → cell (suc k) ≡ slice_index to (chain k).robot
     unfolding chain standing next
@@ -129,8 +133,13 @@ module _ (m : Floor) (from to : List ℕ) (step : IsConflictFree m from to) (e w
             ((chain i).robot, (chain i).small, get_or_default from (chain i).robot (slice_index (map cell (range_with_len 0 many)) i) 0 (chain i).small ∙ sym (at_made cell many i 0 li))
 
     -- no more robots stand there than there are cells
-    pub full-shut : ⊥
-    full-shut = absurd (omega (arith, crowd, length-made cell many))
+    pub full-shut-with : ⊥
+    full-shut-with = absurd (omega (arith, crowd, length-made cell many))
+
+-- without a door
+pub full-shut : (m : Floor) (from to : List ℕ) → IsConflictFree m from to → (e w : ℕ) → e < length from → IsFullBeyond m from (slice_index from e) w → slice_index to e ≢ w
+full-shut m from to step e w known beyond enters =
+    full-shut-with m None from to step (λ r l. elim (step.moves r l) [ inl same ↦ inl same | inr n ↦ inr (n, tt) ]) e w known (full-from m None from (slice_index from e) w beyond) enters
 
 module _ (m : Floor) (from to : List ℕ) (step : IsConflictFree m from to) (e g : ℕ) (known : e < length from) where
   -- who comes nearer, or stands on its goal, has a way ahead

@@ -21,3 +21,4 @@ pub mod Spots
 pub mod Precedences
 pub mod Roomy
 pub mod Exact
+pub mod Doors

@@ -168,7 +168,7 @@ pub choice-inside : (s : Setting) → IsScene s → (target holder : List (Optio
 choice-inside s scene target holder robot cell small choice = floor_inside s.floor cell
     (elim choice.legal [
       | inl own ↦ subst (λ (x : ℕ). IsFloor s.floor x) (sym own) (scene.placed.on_floor robot small)
-      | inr beside ↦ beside.1.to
+      | inr beside ↦ beside.0.1.to
     ])
 
 module _ (s : Setting) (target holder target' holder' : List (Option ℕ)) (robot : ℕ) (cells : List ℕ) (k : ℕ)

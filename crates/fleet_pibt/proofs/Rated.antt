@@ -10,7 +10,7 @@ use Rattle.fleet_grid.specs.declared.dir.Dir.TheVariants.{North, East, South, We
 use Rattle.fleet_grid.proofs.Colours.{differ_by_one}
 use Rattle.fleet_pibt.specs.inside.Around.{AreArounds, AreRated, IsRated}
 use Rattle.fleet_pibt.specs.Goals.{AreGoals}
-use Rattle.fleet_pibt.specs.inside.Setting.{Setting, robots, cell_of, near, cost, IsScene}
+use Rattle.fleet_pibt.specs.inside.Setting.{Setting, robots, cell_of, adjacent, cost, IsScene}
 use Rattle.fleet_pibt.specs.declared.around.Around.{Around}
 use Rattle.fleet_pibt.proofs.Distances.{cost-own, cost-beside, closer-less, idle-own}
 use Rattle.fleet_pibt.proofs.Reserve.{none_or_some}
@@ -33,7 +33,7 @@ rated-by nearer dir c own (inr e) tells = record { near = λ way. (let less = te
 no-way : (nearer : ℕ) (dir : Dir) → nearer ≡ 0 → IsWay nearer dir → ⊥
 no-way nearer dir e way = let z : bit_at nearer (dir_number dir) ≡ 0 = ap (λ (n : ℕ). bit_at n (dir_number dir)) e ∙ bit_at-zero (dir_number dir) in cc (z, way)
 
-module _ (s : Setting) (scene : IsScene s) (waits : List (Option ℕ)) (are : AreGoals s.floor s.from waits s.goals s.distance) (arounds : List Around) (seen : AreArounds s.floor s.goals s.distance s.from arounds) where
+module _ (s : Setting) (scene : IsScene s) (waits : List (Option ℕ)) (are : AreGoals s.floor s.from waits s.goals s.distance) (arounds : List Around) (seen : AreArounds s.floor s.door s.goals s.distance s.from arounds) where
   way-tells : (r : ℕ) (around : Around) (l : r < robots s) → slice_get arounds r ≡ Some around → (dir : Dir) (w : ℕ) → IsNeighbourIn s.floor dir (cell_of s r) w → IsWay around.nearer.byte dir ↔ (cost s r w < cost s r (cell_of s r))
   way-tells r around l e dir w n = elim (none_or_some (s.goals r)) [
     | inl none ↦ (let own = idle-own s scene waits are r l none in (λ way. absurd (no-way around.nearer.byte dir ((seen.asked r around e).idle none) way), λ less. absurd (omega (arith, less, own))))
@@ -48,7 +48,7 @@ module _ (s : Setting) (scene : IsScene s) (waits : List (Option ℕ)) (are : Ar
   rated-from r around e dir w n =
       let below = seen-below arounds r around e in
       let l : r < robots s = omega (arith, below, seen.same_length) in
-      let there : near s (cell_of s r) w = (dir, n) in
+      let there : adjacent s (cell_of s r) w = (dir, n) in
       rated-by around.nearer.byte dir (cost s r w) (cost s r (cell_of s r))
       (differ_by_one s.floor (cell_of s r) w _ _ _ scene.form there (cost-own s scene waits are r l) (cost-beside s scene waits are r l w there))
       (way-tells r around l e dir w n)

@@ -1,7 +1,7 @@
 -- A robot that goes to a roomy cell has a way ahead, and where an edge is open there is one.
-use Rattle.std.proofs.Common.{◌≡◌, ◌≢◌, ℕ, zero, suc, ◌<◌, ◌≤◌, inl, inr, true, false, eqb, List, [], ◌∷◌, length, get_or, slice_index, sym, subst, refl, ap, ◌∙◌, arith, rules}
+use Rattle.std.proofs.Common.{◌≡◌, ◌≢◌, ℕ, zero, suc, ◌<◌, ◌≤◌, inl, inr, true, false, eqb, List, [], ◌∷◌, length, get_or, slice_index, sym, subst, refl, ◌∙◌, arith, rules}
 use Rattle.std.specs.Prelude.{Contains}
-use Rattle.std.specs.List.{IsDistinct, list_any}
+use Rattle.std.specs.List.{list_any}
 use Rattle.std.proofs.lemmas.Cmp.{nat_eq_equiv}
 use Rattle.std.proofs.lemmas.Bool.{ne_eqb, cases_eq}
 use Rattle.std.proofs.lemmas.List.{get_or_default}
@@ -74,15 +74,16 @@ few-cells cells place apart each = length-le_from_is_member nat_eq_equiv cells p
         let same : slice_index cells at.0 ≡ q = get_or_default cells at.0 0 q at.1 ∙ at.2 in
         list_any-from_Contains nat_eq_equiv q place (subst (Contains place) same (each at.0 at.1))
 
-module _ (m : Floor) (from : List ℕ) (e g : ℕ) (known : e < length from) (roomy : IsRoomy (IsNeighbour m) (length from) g) where
+module _ (Near : ℕ → ℕ → Type 0) (from : List ℕ) (e : ℕ) (known : e < length from) where
   abbrev own : ℕ
   own = slice_index from e
 
-  too-many : (w : ℕ) → IsFullBeyond m from own w → HasSide (IsNeighbour m) own w (length from) → ⊥
-  too-many w beyond side = omega (arith, few, side.many)
+  -- robots that stand on each cell of a side, and one more, are more than it has cells
+  pub too-many : (w : ℕ) → (IsOnSide Near own w own → ⊥) → ((c : ℕ) → IsOnSide Near own w c → (r : ℕ) × (r < length from) × (slice_index from r ≡ c)) → HasSide Near own w (length from) → ⊥
+  too-many w alone full side = omega (arith, few, side.many)
     where
       off : (i : ℕ) → i < length side.cells → own ≢ slice_index side.cells i
-      off i l is = before-apart m own w beyond.bridge (subst (IsOnSide (IsNeighbour m) own w) (sym is) (side.inside i l))
+      off i l is = alone (subst (IsOnSide Near own w) (sym is) (side.inside i l))
 
       apart : (i j d : ℕ) → i < j → j < length (own ∷ side.cells) → eqb (get_or (own ∷ side.cells) i d) (get_or (own ∷ side.cells) j d) ≡ false
       apart i zero d less inner = absurd (omega (arith, less))
@@ -98,15 +99,18 @@ module _ (m : Floor) (from : List ℕ) (e g : ℕ) (known : e < length from) (ro
       inside : (i : ℕ) → i < length (own ∷ side.cells) → Contains from (slice_index (own ∷ side.cells) i)
       inside zero l = (e, known, get_or_default from e own 0 known)
       inside (suc i) l =
-          let robot = beyond.full (slice_index side.cells i) (side.inside i (omega (arith, l))) in
+          let robot = full (slice_index side.cells i) (side.inside i (omega (arith, l))) in
           (robot.0, robot.1, get_or_default from robot.0 (slice_index side.cells i) 0 robot.1 ∙ robot.2)
 
       few : length (own ∷ side.cells) ≤ length from
       few = few-cells (own ∷ side.cells) from apart inside
 
+module _ (m : Floor) (from : List ℕ) (e g : ℕ) (known : e < length from) (roomy : IsRoomy (IsNeighbour m) (length from) g) where
   -- who goes to a cell that is roomy for all robots has a way ahead
   pub roomy-way : HasWayAhead m from g (slice_index from e)
-  roomy-way w n closer beyond = too-many w beyond (roomy own w beyond.bridge (goal-beyond m g w own closer))
+  roomy-way w n closer beyond =
+      let here : ℕ = slice_index from e in
+      too-many (IsNeighbour m) from e known w (before-apart m here w beyond.bridge) beyond.full (roomy here w beyond.bridge (goal-beyond m g w here closer))
 
 -- an open edge is a way
 pub open-way : (m : Floor) (from : List ℕ) (goal cell : ℕ) → IsOpenAhead m from goal cell → HasWayAhead m from goal cell

@@ -1,21 +1,16 @@
 -- A step from its parts: the order, the whole plan, and the cells that were written out.
 use Rattle.std.proofs.Common.{◌≡◌, ◌≢◌, ℕ, ◌<◌, Option, Some, None, List, length, slice_index, slice_get, sym, refl, ap, arith}
-use Rattle.fleet_grid.specs.Floor.{IsNeighbour}
-use Rattle.fleet_grid.specs.Step.{IsConflictFree}
-use Rattle.fleet_grid.specs.Walk.{IsBridgeless}
 use Rattle.fleet_hooks.specs.declared.law.TieLaw.{TieLaw}
-use Rattle.fleet_pibt.specs.Advancing.{Advances, IsAdvancing, HasWayAhead}
+use Rattle.fleet_pibt.specs.Advancing.{Advances}
+use Rattle.fleet_pibt.specs.Door.{HasWayWithDoor, IsByLawWithDoor, IsSteppedWithDoor}
 use Rattle.fleet_pibt.specs.Eldest.{IsEldest}
 use Rattle.fleet_pibt.specs.inside.Entry.{table, IsEmpty}
 use Rattle.fleet_pibt.specs.Goals.{AreGoals}
 use Rattle.fleet_pibt.specs.Order.{IsOrder}
-use Rattle.fleet_pibt.specs.Purposeful.{IsPurposeful}
-use Rattle.fleet_pibt.specs.Stepped.{IsStepped}
 use Rattle.fleet_pibt.specs.inside.Setting.{Setting, robots, IsScene, IsPlanned, IsChosen, NamesAll}
 use Rattle.fleet_pibt.specs.inside.Tables.{IsTaken}
-use Rattle.fleet_pibt.specs.Ties.{IsByLaw}
 use Rattle.fleet_pibt.proofs.Ordered.{order-names, eldest-first}
-use Rattle.fleet_pibt.proofs.Theorem.{conflict-free, purposeful, advances-at, by-law-at}
+use Rattle.fleet_pibt.proofs.Theorem.{conflict-free, passes, purposeful, advances-at, by-law-at}
 
 written : (o : Option ℕ) → o ≢ None → (v : ℕ) → ((d : ℕ) → o ≡ Some d → v ≡ d) → o ≡ Some v
 written None ne v h = absurd (ne refl)
@@ -40,18 +35,18 @@ module _ (s : Setting) (scene : IsScene s) (waits : List (Option ℕ)) (waited :
   stepped-names : NamesAll s queue
   stepped-names = order-names s waits queue waited order
 
-  stepped-advances : (e g : ℕ) → IsEldest waits e → s.goals e ≡ Some g → HasWayAhead s.floor s.from g (slice_index s.from e) → Advances s.floor g (slice_index s.from e) (slice_index to e)
+  stepped-advances : (e g : ℕ) → IsEldest waits e → s.goals e ≡ Some g → HasWayWithDoor s.floor s.door s.from g (slice_index s.from e) → Advances s.floor g (slice_index s.from e) (slice_index to e)
   stepped-advances e g eldest is = advances-at s scene waits are queue to same stepped-names chosen e g (eldest-first waits queue order e eldest) is
 
-  stepped-by_law : (e g : ℕ) (law : TieLaw) → IsEldest waits e → s.goals e ≡ Some g → HasWayAhead s.floor s.from g (slice_index s.from e) → slice_get s.laws e ≡ Some law →
-      IsByLaw s.floor law g (slice_index s.from e) (slice_index to e)
+  stepped-by_law : (e g : ℕ) (law : TieLaw) → IsEldest waits e → s.goals e ≡ Some g → HasWayWithDoor s.floor s.door s.from g (slice_index s.from e) → slice_get s.laws e ≡ Some law →
+      IsByLawWithDoor s.floor s.door law g (slice_index s.from e) (slice_index to e)
   stepped-by_law e g law eldest is ahead at = by-law-at s scene waits are queue to same stepped-names chosen e g (eldest-first waits queue order e eldest) is ahead law at
 
-  pub stepped : IsStepped s.floor waits s.goals s.laws s.from to
+  pub stepped : IsSteppedWithDoor s.floor s.door waits s.goals s.laws s.from to
   stepped = record {
     conflict_free = conflict-free s scene waits are queue to same stepped-names chosen;
+    passes = passes s scene waits are queue to same stepped-names chosen;
     purposeful = purposeful s scene waits are queue to same stepped-names chosen;
     advances = stepped-advances;
-    bridgeless = λ no-bridge e g eldest is. stepped-advances e g eldest is (λ w n closer full. no-bridge (slice_index s.from e) w full.bridge);
     by_law = stepped-by_law;
   }

@@ -8,5 +8,6 @@ pub mod Purposeful
 pub mod Advancing
 pub mod Ties
 pub mod Stepped
+pub mod Door
 pub mod Size
 pub mod inside

@@ -1,10 +1,11 @@
 //! What each robot sees from its cell, collected in one pass before the planning.
 
-ghost use Rattle.std.specs.Prelude.{◌≡◌, ℕ, ◌<◌, ◌≤◌, length, slice_index, OnOk};
-ghost use Rattle.fleet_grid.specs.Floor.{HasForm, IsFloor};
+ghost use Rattle.std.specs.Prelude.{◌≡◌, ◌≢◌, ℕ, ◌<◌, ◌≤◌, length, slice_index, None, OnOk};
+ghost use Rattle.fleet_grid.specs.Floor.{Floor, HasForm, IsFloor};
 ghost use Rattle.fleet_grid.specs.Ways.{AreOpen};
 ghost use Rattle.fleet_pibt.specs.inside.Around.{IsSpot, IsAround, AreArounds, IsAsked, AreAsked, cell_in};
 
+use crate::door::Door;
 use crate::goals::Guide;
 use fleet_grid::{Dir, Grid, Outlook, Ways};
 use std::alloc::Allocator;
@@ -68,7 +69,7 @@ fn spot<A: Allocator + Copy>(grid: &Grid<A>, width: u32, exits: Ways, own: u32, 
 fn look<A: Allocator + Copy>(grid: &Grid<A>, own: u32, outlook: Outlook) -> Around
     requires floor { IsFloor grid.now own }
     requires exits { AreOpen grid.now own outlook.exits.byte }
-    ensures cells { IsAround grid.now own result }
+    ensures cells { IsAround grid.now None own result }
     ensures nearer { result.nearer ≡ outlook.nearer }
     ensures exits { result.exits ≡ outlook.exits }
 {
@@ -82,6 +83,37 @@ fn look<A: Allocator + Copy>(grid: &Grid<A>, own: u32, outlook: Outlook) -> Arou
         west: spot(grid, width, exits, own, Dir::West),
         nearer: outlook.nearer,
         exits,
+    }
+}
+
+/// The cell next to the cell `own`, where it is not the one that is shut, and else `own`.
+fn unless_shut(cell: u32, shut: u32, own: u32) -> u32
+    ensures shut { cell ≡ shut → result ≡ own }
+    ensures open { cell ≢ shut → result ≡ cell }
+{
+    if cell == shut { own } else { cell }
+}
+
+/// What the robot sees where that door is shut: beyond it there is no floor.
+fn with_door(door: Option<Door>, around: Around) -> Around
+    ensures cells { (m : Floor) (own : ℕ) → IsAround m None own around → IsAround m door own result }
+    ensures nearer { result.nearer ≡ around.nearer }
+    ensures exits { result.exits ≡ around.exits }
+{
+    let Some(door) = door else {
+        return around;
+    };
+    if around.own != door.from {
+        return around;
+    }
+    Around {
+        own: around.own,
+        north: unless_shut(around.north, door.to, around.own),
+        east: unless_shut(around.east, door.to, around.own),
+        south: unless_shut(around.south, door.to, around.own),
+        west: unless_shut(around.west, door.to, around.own),
+        nearer: around.nearer,
+        exits: around.exits,
     }
 }
 
@@ -111,18 +143,19 @@ fn ask<G: Guide, A: Allocator + Copy>(
     Ok(())
 }
 
-/// Writes down what each robot sees.
+/// Writes down what each robot sees where that door is shut.
 pub(crate) fn gather<G: Guide, A: Allocator + Copy>(
     grid: &Grid<A>,
     from: &[u32],
     goals: &mut G,
+    door: Option<Door>,
     arounds: &mut [Around],
 ) -> Result<(), G::Fault>
     requires same_length { length arounds.old ≡ length from.now }
     requires few { length from.now ≤ 512 }
     requires floor { (r : ℕ) → r < length from.now → IsFloor grid.now (slice_index from.now r) }
     requires shows { G.shows goals.old grid.now }
-    ensures arounds { OnOk result (AreArounds grid.now (G.goal_of goals.old) (G.distance goals.old grid.now) from.now arounds.new) }
+    ensures arounds { OnOk result (AreArounds grid.now door (G.goal_of goals.old) (G.distance goals.old grid.now) from.now arounds.new) }
     ensures goals { G.goal_of goals.new ≡ G.goal_of goals.old }
     ensures distances { G.distance goals.new ≡ G.distance goals.old }
     ensures shows { G.shows goals.new grid.now }
@@ -134,7 +167,7 @@ pub(crate) fn gather<G: Guide, A: Allocator + Copy>(
             nearer: seen.nearer,
             exits: seen.exits,
         };
-        *seen = look(grid, from[robot], outlook);
+        *seen = with_door(door, look(grid, from[robot], outlook));
     }
     Ok(())
 }

@@ -5,6 +5,7 @@
 mod around;
 mod board;
 mod choice;
+mod door;
 mod goals;
 pub mod law;
 mod on_map;
@@ -17,6 +18,7 @@ mod stepper;
 mod table;
 mod tables;
 
+pub use door::Door;
 pub use goals::{Goals, Guide};
 pub use priority::{comes_before, order};
 pub use stepper::Stepper;

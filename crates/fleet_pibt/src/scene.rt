@@ -2,12 +2,14 @@
 
 ghost use Rattle.std.specs.Prelude.{◌≡◌, ℕ, ◌+◌, ◌<◌, cond, length, map, slice_get, slice_index, Some};
 ghost use Rattle.fleet_grid.specs.Floor.{IsNeighbourIn};
+ghost use Rattle.fleet_pibt.specs.Door.{IsOpen};
 ghost use Rattle.fleet_pibt.specs.inside.Setting.{setting};
 ghost use Rattle.fleet_pibt.specs.inside.Around.{IsWhole};
 ghost use Rattle.fleet_pibt.specs.inside.Candidate.{IsCandidate};
 
 use crate::around::Around;
 use crate::choice::{Candidate, cells, in_order};
+use crate::door::Door;
 use crate::goals::Guide;
 use crate::sight::Sight;
 use fleet_grid::{Dir, Grid};
@@ -31,9 +33,10 @@ fn rank_beside(rank: u8) -> u16
 /// What the plan of one step is made from.
 #[derive(Drop)]
 pub(crate) struct Scene<'a, G, A: Allocator + Copy> {
-    /// The map and the goals from which `arounds` was gathered.
+    /// The map, the goals and the shut door from which `arounds` was gathered.
     pub(crate) grid: &'a Grid<A>,
     pub(crate) goals: &'a G,
+    pub(crate) door: Option<Door>,
     pub(crate) from: &'a [u32],
     pub(crate) ties: &'a [TieHook],
     /// What each robot sees.
@@ -42,11 +45,11 @@ pub(crate) struct Scene<'a, G, A: Allocator + Copy> {
 }
 
 impl<'a, G: Guide, A: Allocator + Copy> Sight for Scene<'a, G, A> {
-    ghost setting = { λ s. setting s.grid.now s.from.now (G.goal_of s.goals.now) (G.distance s.goals.now s.grid.now) (map (λ h. h.law) s.ties.now) };
+    ghost setting = { λ s. setting s.grid.now s.from.now (G.goal_of s.goals.now) (G.distance s.goals.now s.grid.now) (map (λ h. h.law) s.ties.now) s.door };
 
     ghost is_whole = { λ s.
         IsWhole
-        (setting s.grid.now s.from.now (G.goal_of s.goals.now) (G.distance s.goals.now s.grid.now) (map (λ h. h.law) s.ties.now))
+        (setting s.grid.now s.from.now (G.goal_of s.goals.now) (G.distance s.goals.now s.grid.now) (map (λ h. h.law) s.ties.now) s.door)
         s.arounds.now };
 
     ghost is_scene = { λ s whole. whole.scene };
@@ -86,13 +89,14 @@ impl<'a, G: Guide, A: Allocator + Copy> Scene<'a, G, A> {
         }
     }
 
-    /// The candidate in a direction of a robot that sees this, or that of the own cell where there is no floor.
+    /// The candidate in a direction of a robot that sees this, or that of the own cell where it may not go there.
     fn moving(&self, robot: u32, around: Around, dir: Dir) -> Candidate
         requires whole { ⟦<Scene<'a, G, A> as Sight>⟧.is_whole self.now }
         requires known { robot < length self.now.from.now }
         requires seen { slice_get self.now.arounds.now robot ≡ Some around }
         ensures candidate { IsCandidate (⟦<Scene<'a, G, A> as Sight>⟧.setting self.now) robot result }
-        ensures covers { (w : ℕ) → IsNeighbourIn self.now.grid.now dir (slice_index self.now.from.now robot) w → result.cell ≡ w }
+        ensures covers { (w : ℕ) → IsNeighbourIn self.now.grid.now dir (slice_index self.now.from.now robot) w →
+            IsOpen self.now.door (slice_index self.now.from.now robot) w → result.cell ≡ w }
     {
         let cell = around.beside(dir);
         if cell == around.own {

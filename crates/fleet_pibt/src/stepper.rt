@@ -5,6 +5,7 @@ ghost use Rattle.fleet_grid.specs.Floor.{HasForm, IsFloor, IsNeighbour};
 ghost use Rattle.fleet_grid.specs.Step.{IsPlacement, IsConflictFree};
 ghost use Rattle.fleet_grid.specs.Walk.{IsBridgeless};
 ghost use Rattle.fleet_pibt.specs.Advancing.{Advances, IsAdvancing, HasWayAhead};
+ghost use Rattle.fleet_pibt.specs.Door.{IsSteppedWithDoor};
 ghost use Rattle.fleet_pibt.specs.Eldest.{IsEldest};
 ghost use Rattle.fleet_pibt.specs.Goals.{AreGoals};
 ghost use Rattle.fleet_pibt.specs.Order.{IsOrder, IsRoll};
@@ -18,6 +19,7 @@ ghost use Rattle.fleet_pibt.specs.inside.Tables.{IsClear};
 
 use crate::around::{Around, gather};
 use crate::board::Board;
+use crate::door::Door;
 use crate::goals::{Goals, Guide};
 use crate::on_map::OnMap;
 use crate::plan::plan_all;
@@ -141,10 +143,50 @@ impl<A: Allocator + Copy> Stepper<A> {
         ensures stays { G.stays goals.old goals.new }
         ensures stepped { OnOk result (IsStepped grid.now waits.now (G.goal_of goals.old) (map (λ h. h.law) ties.now) from.now to.new) }
     {
-        see(grid, from, goals, &mut self.arounds, &mut self.board.seats)?;
+        self.step_with_door(grid, from, waits, goals, ties, None, tick, to)
+    }
+
+    /// Does what `step_by` does where a door is shut: the robot on its cell `from` does not go to its cell `to`, by itself or
+    /// pushed. The way back is free. Without a door this is `step_by`. The robots' priority is what `waits` says, so that a
+    /// caller who lends a robot the greatest wait lets it go first.
+    pub fn step_with_door<G: Guide>(
+        &mut self,
+        grid: &Grid<A>,
+        from: &[u32],
+        waits: &[Option<u64>],
+        goals: &mut G,
+        ties: &[TieHook],
+        door: Option<Door>,
+        tick: u64,
+        to: &mut [u32],
+    ) -> Result<(), G::Fault>
+        requires placed { IsPlacement grid.now from.now }
+        requires few { length from.now ≤ 512 }
+        requires waited { length waits.now ≡ length from.now }
+        requires tied { length ties.now ≡ length from.now }
+        requires same_length { length to.old ≡ length from.now }
+        requires made { self.old ≡ record { cells = length grid.now.letters; robots = length from.now } }
+        requires goals { AreGoals grid.now from.now waits.now (G.goal_of goals.old) (G.distance goals.old grid.now) }
+        requires shows { G.shows goals.old grid.now }
+        ensures made { self.new ≡ self.old }
+        ensures goals { G.goal_of goals.new ≡ G.goal_of goals.old }
+        ensures distances { G.distance goals.new ≡ G.distance goals.old }
+        ensures shows { G.shows goals.new grid.now }
+        ensures stays { G.stays goals.old goals.new }
+        ensures stepped { OnOk result (IsSteppedWithDoor grid.now door waits.now (G.goal_of goals.old) (map (λ h. h.law) ties.now) from.now to.new) }
+    {
+        see(
+            grid,
+            from,
+            goals,
+            door,
+            &mut self.arounds,
+            &mut self.board.seats,
+        )?;
         let scene = Scene {
             grid,
             goals: &*goals,
+            door,
             from,
             ties,
             arounds: &self.arounds,
@@ -160,6 +202,7 @@ fn see<G: Guide, A: Allocator + Copy>(
     grid: &Grid<A>,
     from: &[u32],
     goals: &mut G,
+    door: Option<Door>,
     arounds: &mut [Around],
     seats: &mut Seats<A>,
 ) -> Result<(), G::Fault>
@@ -169,7 +212,7 @@ fn see<G: Guide, A: Allocator + Copy>(
     requires shows { G.shows goals.old grid.now }
     requires cells { length seats.old.standing ≡ length grid.now.letters }
     requires nobody { IsEmpty seats.old.standing }
-    ensures arounds { OnOk result (AreArounds grid.now (G.goal_of goals.old) (G.distance goals.old grid.now) from.now arounds.new) }
+    ensures arounds { OnOk result (AreArounds grid.now door (G.goal_of goals.old) (G.distance goals.old grid.now) from.now arounds.new) }
     ensures goals { G.goal_of goals.new ≡ G.goal_of goals.old }
     ensures distances { G.distance goals.new ≡ G.distance goals.old }
     ensures shows { G.shows goals.new grid.now }
@@ -181,7 +224,7 @@ fn see<G: Guide, A: Allocator + Copy>(
 {
     // The count comes with the form of the map, which the proof reads.
     let _cells = grid.cell_count();
-    gather(grid, from, goals, arounds)?;
+    gather(grid, from, goals, door, arounds)?;
     fetch(arounds, seats);
     Ok(())
 }

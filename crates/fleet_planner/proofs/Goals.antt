@@ -1,7 +1,5 @@
 -- What a world keeps, waits, aims and cells, is what a step by priority inheritance asks for.
 use Rattle.std.proofs.Common.{◌≡◌, ℕ, ◌<◌, ◌↔◌, List, length, Option, Some, None, IsSome, sym, refl, ap, ◌∙◌, subst, arith, slice_index, slice_index_or}
-use Rattle.std.specs.Prelude.{slice_get}
-use Rattle.std.proofs.Math.Path.{fun_ext}
 use Rattle.fleet_grid.specs.Floor.{Floor, IsNeighbour}
 use Rattle.fleet_grid.specs.Walk.{AreJoined, IsBridgeless}
 use Rattle.fleet_hooks.specs.declared.law.TieLaw.{TieLaw}
@@ -16,9 +14,7 @@ use Rattle.fleet_planner.proofs.Measured.{are_goals}
 use Rattle.fleet_pibt.specs.Goals.{AreGoals}
 use Rattle.fleet_pibt.specs.Order.{wait_of}
 use Rattle.fleet_pibt.specs.Eldest.{IsEldest}
-use Rattle.fleet_pibt.specs.Purposeful.{IsPurposeful}
-use Rattle.fleet_pibt.specs.Advancing.{Advances, IsAdvancing, HasWayAhead}
-use Rattle.fleet_pibt.specs.Ties.{IsByLaw}
+use Rattle.fleet_pibt.specs.Advancing.{IsAdvancing, HasWayAhead}
 use Rattle.fleet_planner.specs.Planned.{waits, goals, goal_of, cell_of, IsPlannedBy}
 use Rattle.fleet_planner.proofs.Lists.{item_of}
 

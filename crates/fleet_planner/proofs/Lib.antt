@@ -7,6 +7,7 @@ pub mod Measured
 pub mod Goals
 pub mod Lists
 pub mod Longest
+pub mod Lenders
 pub mod Ticked
 pub mod Refused
 pub mod GoalsKept

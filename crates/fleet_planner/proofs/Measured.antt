@@ -1,5 +1,5 @@
 -- From courses to the goals of a step.
-use Rattle.std.proofs.Common.{◌≡◌, ℕ, ◌<◌, ◌↔◌, List, Option, Some, None, MatchOption, IsSome, length, slice_index, refl, sym, ap, subst, ◌∙◌, inl, inr}
+use Rattle.std.proofs.Common.{◌≡◌, ℕ, ◌<◌, ◌↔◌, List, Option, Some, None, MatchOption, IsSome, length, slice_index, refl, sym, subst}
 use Rattle.fleet_grid.specs.Floor.{Floor, IsFloor, IsNeighbour}
 use Rattle.fleet_grid.specs.Walk.{AreJoined, AreApart, IsDistance}
 use Rattle.fleet_grid.specs.Distance.{distance}

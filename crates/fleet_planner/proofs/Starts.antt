@@ -2,7 +2,7 @@
 use Rattle.std.proofs.Common.{◌≡◌, ℕ, zero, suc, ◌+◌, ◌<◌, ◌≤◌, ◌⊎◌, inl, inr, List, [], ◌∷◌, ◌++◌, length, map, set, get_or, drop, Option, Some, None, refl, sym, ap, subst, ◌∙◌, arith, rules, slice_index_or}
 use Rattle.std.specs.Prelude.{slice_get}
 use Rattle.std.proofs.lemmas.List.{length-set, length-map, map-set, drop_more, drop_all}
-use Rattle.fleet_grid.specs.Floor.{Floor, IsFloor}
+use Rattle.fleet_grid.specs.Floor.{Floor}
 use Rattle.fleet_field.specs.Growing.{Growth, IsGrown}
 use Rattle.fleet_planner.specs.Courses.{own_goal, first_of, merged}
 use Rattle.fleet_planner.specs.Turned.{turned, AreFloorTurns, AreKnownTurns}

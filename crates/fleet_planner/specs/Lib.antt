@@ -12,4 +12,5 @@ pub mod Turned
 pub mod Planned
 pub mod Counted
 pub mod Aimed
+pub mod Lending
 pub mod inside

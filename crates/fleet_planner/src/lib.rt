@@ -6,6 +6,7 @@ mod ahead;
 mod aims;
 mod courses;
 mod keys;
+mod lending;
 mod mover;
 mod planner;
 mod recent;
@@ -15,6 +16,7 @@ mod waits;
 
 pub use aims::Aims;
 pub use courses::Courses;
+pub use lending::{Lending, RoomLists, lend};
 pub use planner::Planner;
 pub use turns::GoalChange;
 pub use waits::{eldest, is_nobody};

@@ -60,30 +60,29 @@ fn lines_of<A: Allocator + Copy>(alloc: A, runs: &[Run]) -> Result<Vec<u32, A>, 
     Ok(lines)
 }
 
-/// The script with a list of all its events.
-pub(crate) fn unroll<A: Allocator + Copy>(
-    alloc: A,
-    script: ScriptRuns<A>,
-) -> Result<Script<A>, AllocError>
-    ensures { IfOk result (λ s. plan s ≡ runs_plan script) }
-{
-    let events = events_of(alloc, &script.runs)?;
-    let lines = lines_of(alloc, &script.runs)?;
-    let ScriptRuns {
-        starts,
-        clients,
-        limits,
-        south,
-        turns,
-        runs: _,
-    } = script;
-    Ok(Script {
-        starts,
-        clients,
-        limits,
-        south,
-        turns,
-        events,
-        lines,
-    })
+impl<A: Allocator + Copy> ScriptRuns<A> {
+    /// The same with a list of all its events. The only error is out of memory.
+    pub fn unrolled(self, alloc: A) -> Result<Script<A>, AllocError>
+        ensures { IfOk result (λ s. plan s ≡ runs_plan self) }
+    {
+        let events = events_of(alloc, &self.runs)?;
+        let lines = lines_of(alloc, &self.runs)?;
+        let ScriptRuns {
+            starts,
+            clients,
+            limits,
+            south,
+            turns,
+            runs: _,
+        } = self;
+        Ok(Script {
+            starts,
+            clients,
+            limits,
+            south,
+            turns,
+            events,
+            lines,
+        })
+    }
 }

@@ -14,7 +14,7 @@ ghost use Rattle.fleet_script.specs.declared.script.ScriptFault.{ScriptFault};
 use crate::header::Head;
 use crate::lines::{Repeat, events_of_line};
 use crate::run::Run;
-use crate::runs::{ScriptRuns, unroll};
+use crate::runs::ScriptRuns;
 use fleet_book::{Event, Limits};
 use fleet_map::text::{first_line, first_word};
 use std::alloc::{AllocError, Allocator, Global};
@@ -187,7 +187,7 @@ fn read_lines<A: Allocator + Copy>(alloc: A, bytes: &[u8]) -> Result<Script<A>, 
     ensures { Gives plan result (script_of bytes.now) }
 {
     let script = read_runs(alloc, bytes)?;
-    Ok(unroll(alloc, script)?)
+    Ok(script.unrolled(alloc)?)
 }
 
 /// The script that the bytes are, as `read_script` has it, with a run for each event line in place of a list of all

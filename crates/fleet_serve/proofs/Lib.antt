@@ -4,3 +4,4 @@ pub mod Clients
 pub mod Counts
 pub mod Ended
 pub mod Faults
+pub mod Others

@@ -1,5 +1,5 @@
 -- What the lines of a script post for a client, and what the office takes of it.
-use Rattle.std.specs.Prelude.{ℕ, Bool, false, ◌≡◌, ◌≢◌, ◌<◌, ◌≤◌, ◌+◌, ◌-◌, ◌^◌, List, [], ◌∷◌, ◌++◌, ◌==◌, if◌then◌else◌, length, min, Some, slice_get, slice_index_or, Vec}
+use Rattle.std.specs.Prelude.{ℕ, Bool, false, ◌≡◌, ◌≢◌, ◌<◌, ◌≤◌, ◌+◌, ◌-◌, ◌^◌, List, [], ◌∷◌, ◌++◌, ◌==◌, if◌then◌else◌, length, min, Some, slice_get, slice_index, slice_index_or, Vec}
 use Rattle.std.specs.List.{flat_map, sum_by}
 use Rattle.fleet_book.specs.declared.order.Order.{Order}
 use Rattle.fleet_book.specs.declared.notice.Notice.{Notice}
@@ -27,6 +27,12 @@ pub record IsFirstOther (clients : ℕ) (events : List Event) (at : ℕ) : Type 
   pub inside : at < length events
   pub other : (d : Event) → IsLine clients (slice_index_or events at d) → ⊥
   pub before : (k : ℕ) (d : Event) → k < at → IsLine clients (slice_index_or events k d)
+
+-- the line of the first event that is no such line, where each event has its line
+pub record IsLineOfOther (clients : ℕ) (events : List Event) (lines : List ℕ) (line : ℕ) : Type 0 where
+  pub at : ℕ
+  pub first : IsFirstOther clients events at
+  pub stands : line ≡ slice_index lines at
 
 -- the order that a line posts for the client
 abbrev pub post_by : ℕ → Event → List Order

@@ -13,7 +13,7 @@ mod shift;
 mod threads;
 
 pub use crate::gate::Gate;
-pub use crate::lines::first_other;
+pub use crate::lines::{first_other, first_other_line};
 pub use crate::names::ScriptName;
 pub use crate::new_client::NewClient;
 pub use crate::served::{ServeFault, Served};

@@ -2,10 +2,11 @@
 
 ghost use Rattle.std.specs.Prelude.{◌≡◌, ◌↔◌, IsTrue, IfNone, IfSome, length, slice_get, Some};
 ghost use Rattle.std.specs.List.{All};
-ghost use Rattle.fleet_serve.specs.Posted.{IsLine, IsFirstOther};
+ghost use Rattle.fleet_script.specs.Runs.{unrolled, numbered};
+ghost use Rattle.fleet_serve.specs.Posted.{IsLine, IsFirstOther, IsLineOfOther};
 
 use fleet_book::Event;
-use fleet_script::Script;
+use fleet_script::{Script, ScriptRuns};
 
 /// Whether the event is a post or a collect of one of this many clients.
 fn is_line(event: Event, clients: u32) -> bool
@@ -25,6 +26,20 @@ pub fn first_other(script: &Script) -> Option<usize>
     for at in 0..script.events.len() {
         if !is_line(script.events[at], script.clients) {
             return Some(at);
+        }
+    }
+    None
+}
+
+/// The line of the first event that is no post or collect of a client in range, from 1. None where all are.
+pub fn first_other_line(script: &ScriptRuns) -> Option<u32>
+    ensures none { IfNone result (All (IsLine script.now.clients) (unrolled script.now.runs.items)) }
+    ensures some { IfSome result (λ line. IsLineOfOther script.now.clients (unrolled script.now.runs.items) (numbered script.now.runs.items) line) }
+{
+    for at in 0..script.runs.len() {
+        let run = script.runs[at];
+        if !is_line(run.event, script.clients) {
+            return Some(run.line);
         }
     }
     None

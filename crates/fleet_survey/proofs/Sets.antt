@@ -2,14 +2,15 @@
 use Rattle.std.proofs.Common.{◌≡◌, ℕ, ◌+◌, ◌<◌, ◌≤◌, ◌⊎◌, inl, inr, List, [], ◌∷◌, ◌++◌, length, get_or, refl, sym, subst, Bool, true, false, arith}
 use Rattle.std.specs.Prelude.{◌↔◌, slice_index}
 use Rattle.std.specs.List.{All, Contains}
-use Rattle.std.proofs.lemmas.Bool.{cases_lt}
+use Rattle.std.proofs.lemmas.Bool.{cases_Bool, cases_lt}
 use Rattle.std.proofs.lemmas.List.{append-nil}
 use Rattle.std.proofs.lemmas.List.Elements.{All-from_get_or, All-get_or, Contains-append_left, Contains-get_or, Contains-push, Contains-push_cases}
 use Rattle.std.proofs.lemmas.List.Quantifiers.{all_pairs_push}
 use Rattle.fleet_grid.specs.Floor.{Floor, IsFloor, IsNeighbour}
 use Rattle.fleet_grid.specs.Walk.{IsRoomy}
 use Rattle.fleet_bridge.specs.Roominess.{AreRoomyFor}
-use Rattle.fleet_survey.specs.Survey.{AreCells, AreCellsBelow, IsRoomyCell, IsTightCell, IsGreatestFor, cell_if}
+use Rattle.fleet_roomy.specs.Unroomy.{AreUnroomy, IsRoomyCell, IsUnroomyCell, has}
+use Rattle.fleet_survey.specs.Survey.{AreCells, AreCellsBelow, IsGreatestFor, cell_if}
 
 pub none_below : (In : ℕ → Type 0) → AreCellsBelow In 0 []
 none_below In = record {
@@ -49,21 +50,24 @@ all_below In k cells bound known = record {
   order = known.order;
 }
 
--- a floor cell's number says for how many robots it is roomy
-pub roomy_by : (m : Floor) (most : List ℕ) (n c : ℕ) → AreRoomyFor m most → n < 4294967296 → IsFloor m c → n ≤ slice_index most c → IsRoomyCell m n c
-roomy_by m most n c known small floor le = (floor, (known.each c n floor small).0 le)
+-- the floor cells that are marked, and those that are not
+pub unroomy_are : (m : Floor) (n : ℕ) (marks : List Bool) (cells : List ℕ) → AreUnroomy m n marks → AreCells (λ c. IsFloor m c × (has marks c ≡ true)) cells → AreCells (IsUnroomyCell m n) cells
+unroomy_are m n marks cells known are = record {
+  each = λ c. (λ is. (known.exact c).0 ((are.each c).0 is).1, λ it. (are.each c).1 (it.0, (known.exact c).1 it));
+  order = are.order;
+}
 
-pub roomy_not : (m : Floor) (most : List ℕ) (n c : ℕ) → AreRoomyFor m most → n < 4294967296 → IsRoomyCell m n c → (n ≤ slice_index most c)
-roomy_not m most n c known small it = (known.each c n it.0 small).1 it.1
-
-pub tight_by : (m : Floor) (most : List ℕ) (n c : ℕ) → AreRoomyFor m most → n < 4294967296 → IsFloor m c → slice_index most c < n → IsTightCell m n c
-tight_by m most n c known small floor less = (floor, λ roomy. (let le = (known.each c n floor small).1 roomy in omega (arith, le, less)))
-
-pub tight_not : (m : Floor) (most : List ℕ) (n c : ℕ) → AreRoomyFor m most → n < 4294967296 → IsTightCell m n c → slice_index most c < n
-tight_not m most n c known small it = elim (cases_lt (slice_index most c) n) [
-  | inl less ↦ less
-  | inr le ↦ absurd (it.1 ((known.each c n it.0 small).0 le))
-]
+pub roomy_are : (m : Floor) (n : ℕ) (marks : List Bool) (cells : List ℕ) → AreUnroomy m n marks → AreCells (λ c. IsFloor m c × (has marks c ≡ false)) cells → AreCells (IsRoomyCell m n) cells
+roomy_are m n marks cells known are = record {
+  each = λ c. (
+    λ is. (let it = (are.each c).0 is in (it.0, known.others c it.0 it.1)),
+    λ it. elim (cases_Bool (has marks c)) [
+      | inl marked ↦ absurd (((known.exact c).0 marked).1 it.1)
+      | inr free ↦ (are.each c).1 (it.0, free)
+    ],
+  );
+  order = are.order;
+}
 
 -- the least of the numbers of some cells
 

@@ -6,17 +6,10 @@ use Rattle.fleet_grid.specs.Floor.{Floor, IsFloor, IsNeighbour}
 use Rattle.fleet_grid.specs.Walk.{IsBridgeless, IsRoomy}
 use Rattle.fleet_bridge.specs.Bridges.{AreBridges}
 use Rattle.fleet_bridge.specs.Roominess.{AreRoomyFor}
+use Rattle.fleet_roomy.specs.Unroomy.{IsRoomyCell, IsUnroomyCell}
 use Rattle.fleet_survey.specs.declared.standing.Standing.{Standing}
 use Rattle.fleet_survey.specs.declared.standing.Standing.TheVariants.{Bridgeless, AllRoomy, SomeRoomy, NoneRoomy}
 use Rattle.fleet_survey.specs.declared.survey.Survey.{Survey}
-
--- a floor cell that is roomy for n robots
-abbrev pub IsRoomyCell : Floor → ℕ → ℕ → Type 0
-IsRoomyCell m n c = IsFloor m c × IsRoomy (IsNeighbour m) n c
-
--- a floor cell that is not
-abbrev pub IsTightCell : Floor → ℕ → ℕ → Type 0
-IsTightCell m n c = IsFloor m c × (IsRoomy (IsNeighbour m) n c → ⊥)
 
 -- the list has the cells of a set below a number, each once, in their order
 pub record AreCellsBelow (In : ℕ → Type 0) (k : ℕ) (cells : List ℕ) : Type 0 where
@@ -40,15 +33,15 @@ IsGreatestFor m cells most = (n : ℕ) → n < 2 ^ 32 → (n ≤ most) ↔ All (
 abbrev pub IsStanding : Floor → ℕ → Standing → Type 0
 IsStanding m n Bridgeless = IsBridgeless (IsNeighbour m)
 IsStanding m n AllRoomy = (c : ℕ) → IsFloor m c → IsRoomy (IsNeighbour m) n c
-IsStanding m n SomeRoomy = ((c : ℕ) × IsRoomyCell m n c) × ((c : ℕ) × IsTightCell m n c)
+IsStanding m n SomeRoomy = ((c : ℕ) × IsRoomyCell m n c) × ((c : ℕ) × IsUnroomyCell m n c)
 IsStanding m n NoneRoomy = (c : ℕ) → IsRoomyCell m n c → ⊥
 
 -- the same by the numbers of bridges, and of cells that are roomy and not
 abbrev pub IsStandingBy : ℕ → ℕ → ℕ → Standing → Type 0
-IsStandingBy bridges roomy tight Bridgeless = bridges ≡ 0
-IsStandingBy bridges roomy tight AllRoomy = tight ≡ 0
-IsStandingBy bridges roomy tight SomeRoomy = (0 < roomy) × (0 < tight)
-IsStandingBy bridges roomy tight NoneRoomy = roomy ≡ 0
+IsStandingBy bridges roomy unroomy Bridgeless = bridges ≡ 0
+IsStandingBy bridges roomy unroomy AllRoomy = unroomy ≡ 0
+IsStandingBy bridges roomy unroomy SomeRoomy = (0 < roomy) × (0 < unroomy)
+IsStandingBy bridges roomy unroomy NoneRoomy = roomy ≡ 0
 
 -- what is told of a map for n robots
 pub record IsSurvey (m : Floor) (n : ℕ) (s : Survey) : Type 0 where
@@ -57,6 +50,6 @@ pub record IsSurvey (m : Floor) (n : ℕ) (s : Survey) : Type 0 where
   pub edges : s.edges ≡ edge_count m
   pub bridges : AreBridges (IsNeighbour m) s.bridges.items
   pub roomy : AreCells (IsRoomyCell m n) s.roomy.items
-  pub tight : AreCells (IsTightCell m n) s.tight.items
+  pub unroomy : AreCells (IsUnroomyCell m n) s.unroomy.items
   pub most : AreRoomyFor m s.most.items
   pub standing : IsStanding m n s.standing

@@ -1,61 +1,26 @@
 //! The floor cells that are roomy for a number of robots, and those that are not.
 
-ghost use Rattle.std.specs.Prelude.{◌≡◌, ℕ, ◌+◌, ◌<◌, ◌≤◌, ◌++◌, ◌↔◌, length, vec_len, slice_index, IfOk, OnOk, true, false};
-ghost use Rattle.fleet_bridge.specs.Roominess.{AreRoomyFor};
-ghost use Rattle.fleet_survey.specs.Survey.{AreCells, AreCellsBelow, IsRoomyCell, IsTightCell, cell_if};
+ghost use Rattle.std.specs.Prelude.{◌≡◌, ◌↔◌, ◌++◌, IfOk, IsTrue, OnOk, false};
+ghost use Rattle.fleet_grid.specs.Floor.{IsFloor};
+ghost use Rattle.fleet_roomy.specs.Unroomy.{has};
+ghost use Rattle.fleet_survey.specs.Survey.{AreCells, cell_if};
 
-use fleet_bridge::roominess;
 use fleet_grid::Grid;
+use fleet_roomy::UnroomyCells;
 use std::alloc::{AllocError, Global};
 
-/// The number of a cell, or 0 past the end.
-pub(crate) fn number_at(most: &[u32], cell: u32) -> u32
-    ensures { result ≡ slice_index most.now cell }
-{
-    let at = cell as usize;
-    if at < most.len() { most[at] } else { 0 }
-}
-
-/// Whether the first number is less.
-fn is_below(number: u32, robots: u32) -> bool
-    ensures yes { result ≡ true → number < robots }
-    ensures no { result ≡ false → robots ≤ number }
-{
-    number < robots
-}
-
-/// The numbers of all cells.
-pub(crate) fn numbers_of(alloc: Global, grid: &Grid) -> Result<Vec<u32>, AllocError>
-    ensures { IfOk result (λ most. AreRoomyFor grid.now most.items) }
-{
-    let most = roominess(alloc, grid)?;
-    Ok(most)
-}
-
 /// Whether the cell is floor and roomy.
-pub(crate) fn is_roomy(grid: &Grid, most: &Vec<u32>, robots: u32, cell: u32) -> bool
-    requires { AreRoomyFor grid.now most.now.items }
-    ensures yes { result ≡ true → IsRoomyCell grid.now robots cell }
-    ensures no { IsRoomyCell grid.now robots cell → result ≡ true }
+pub(crate) fn is_roomy(grid: &Grid, unroomy: &UnroomyCells, cell: u32) -> bool
+    ensures { IsTrue result ↔ (IsFloor grid.now cell × (has unroomy.now.marks.items cell ≡ false)) }
 {
-    let is_tight = is_below(number_at(most, cell), robots);
-    if is_tight {
-        return false;
-    }
-    grid.is_floor(cell)
+    grid.is_floor(cell) && !unroomy.has(cell)
 }
 
-/// Whether the cell is floor and not roomy.
-pub(crate) fn is_tight(grid: &Grid, most: &Vec<u32>, robots: u32, cell: u32) -> bool
-    requires { AreRoomyFor grid.now most.now.items }
-    ensures yes { result ≡ true → IsTightCell grid.now robots cell }
-    ensures no { IsTightCell grid.now robots cell → result ≡ true }
+/// Whether the cell is floor, and unroomy or not.
+fn is_wanted(grid: &Grid, unroomy: &UnroomyCells, are_unroomy: bool, cell: u32) -> bool
+    ensures { IsTrue result ↔ (IsFloor grid.now cell × (has unroomy.now.marks.items cell ≡ are_unroomy)) }
 {
-    let is_tight = is_below(number_at(most, cell), robots);
-    if is_tight {
-        return grid.is_floor(cell);
-    }
-    false
+    grid.is_floor(cell) && unroomy.has(cell) == are_unroomy
 }
 
 /// Adds the cell, if it is wanted.
@@ -68,36 +33,22 @@ fn push_if(cells: &mut Vec<u32>, wanted: bool, cell: u32) -> Result<(), AllocErr
     Ok(())
 }
 
-/// The floor cells that are roomy for that many robots, in their order.
-pub(crate) fn roomy_cells(
+/// The floor cells that are unroomy, or those that are not, in their order.
+pub(crate) fn floor_cells(
     alloc: Global,
     grid: &Grid,
-    most: &Vec<u32>,
-    robots: u32,
+    unroomy: &UnroomyCells,
+    are_unroomy: bool,
 ) -> Result<Vec<u32>, AllocError>
-    requires { AreRoomyFor grid.now most.now.items }
-    ensures { IfOk result (λ cells. AreCells (IsRoomyCell grid.now robots) cells.items) }
+    ensures { IfOk result (λ cells. AreCells (λ c. IsFloor grid.now c × (has unroomy.now.marks.items c ≡ are_unroomy)) cells.items) }
 {
     let mut cells = Vec::new(alloc);
     for cell in 0..grid.cell_count() {
-        push_if(&mut cells, is_roomy(grid, most, robots, cell), cell)?;
-    }
-    Ok(cells)
-}
-
-/// The floor cells that are not, in their order.
-pub(crate) fn tight_cells(
-    alloc: Global,
-    grid: &Grid,
-    most: &Vec<u32>,
-    robots: u32,
-) -> Result<Vec<u32>, AllocError>
-    requires { AreRoomyFor grid.now most.now.items }
-    ensures { IfOk result (λ cells. AreCells (IsTightCell grid.now robots) cells.items) }
-{
-    let mut cells = Vec::new(alloc);
-    for cell in 0..grid.cell_count() {
-        push_if(&mut cells, is_tight(grid, most, robots, cell), cell)?;
+        push_if(
+            &mut cells,
+            is_wanted(grid, unroomy, are_unroomy, cell),
+            cell,
+        )?;
     }
     Ok(cells)
 }

@@ -1,13 +1,9 @@
 //! Dead ends: cells that are not roomy and hang together. Each is a side of a bridge, and the cell beyond that bridge is
 //! its mouth; a part of the map that has no roomy cell is one without a mouth.
 
-ghost use Rattle.std.specs.Prelude.{◌≡◌, ℕ, ◌<◌, ◌≤◌, length, vec_len, IfOk, OnOk};
-ghost use Rattle.std.specs.List.{All, Contains};
-ghost use Rattle.fleet_bridge.specs.Roominess.{AreRoomyFor};
-ghost use Rattle.fleet_survey.specs.Survey.{AreCells, IsTightCell};
-
 use crate::chosen::is_roomy;
 use fleet_grid::{Dir, Grid};
+use fleet_roomy::UnroomyCells;
 use std::alloc::{AllocError, Global};
 
 /// Cells that are not roomy and hang together.
@@ -17,18 +13,6 @@ pub struct DeadEnd {
     pub mouth: Option<u32>,
     /// Its cells, from the lowest one on, each next to one before it.
     pub cells: Vec<u32>,
-}
-
-/// Marks of the cells of a list.
-fn marks_of(alloc: Global, count: u32, cells: &[u32]) -> Result<Vec<bool>, AllocError> {
-    let mut marks = vec![in alloc; false; count as usize]?;
-    for cell in cells {
-        let at = *cell as usize;
-        if at < marks.len() {
-            marks[at] = true;
-        }
-    }
-    Ok(marks)
 }
 
 /// Whether the cell is marked.
@@ -82,12 +66,10 @@ fn take_all(
 }
 
 /// The first roomy neighbour of a cell.
-fn roomy_beside(grid: &Grid, most: &Vec<u32>, robots: u32, cell: u32) -> Option<u32>
-    requires { AreRoomyFor grid.now most.now.items }
-{
+fn roomy_beside(grid: &Grid, unroomy: &UnroomyCells, cell: u32) -> Option<u32> {
     for dir in Dir::ALL {
         if let Some(next) = grid.neighbour(cell, dir)
-            && is_roomy(grid, most, robots, next)
+            && is_roomy(grid, unroomy, next)
         {
             return Some(next);
         }
@@ -96,33 +78,28 @@ fn roomy_beside(grid: &Grid, most: &Vec<u32>, robots: u32, cell: u32) -> Option<
 }
 
 /// The first roomy cell next to one of the cells.
-fn mouth_of(grid: &Grid, most: &Vec<u32>, robots: u32, cells: &[u32]) -> Option<u32>
-    requires { AreRoomyFor grid.now most.now.items }
-{
+fn mouth_of(grid: &Grid, unroomy: &UnroomyCells, cells: &[u32]) -> Option<u32> {
     for cell in cells {
-        if let Some(mouth) = roomy_beside(grid, most, robots, *cell) {
+        if let Some(mouth) = roomy_beside(grid, unroomy, *cell) {
             return Some(mouth);
         }
     }
     None
 }
 
-/// The dead ends for a number of robots, by their lowest cells. `tight` has the cells that are not roomy.
+/// The dead ends, by their lowest cells. `cells` has the unroomy cells in their order.
 pub(crate) fn dead_ends(
     alloc: Global,
     grid: &Grid,
-    most: &Vec<u32>,
-    robots: u32,
-    tight: &[u32],
-) -> Result<Vec<DeadEnd>, AllocError>
-    requires { AreRoomyFor grid.now most.now.items }
-{
-    let mut left = marks_of(alloc, grid.cell_count(), tight)?;
+    unroomy: &UnroomyCells,
+    cells: &[u32],
+) -> Result<Vec<DeadEnd>, AllocError> {
+    let mut left = Vec::from_slice(alloc, &unroomy.marks)?;
     let mut ends = Vec::new(alloc);
-    for cell in tight {
+    for cell in cells {
         if is_left(&left, *cell) {
             let cells = take_all(alloc, grid, &mut left, *cell)?;
-            let mouth = mouth_of(grid, most, robots, &cells);
+            let mouth = mouth_of(grid, unroomy, &cells);
             ends.push(DeadEnd { mouth, cells })?;
         }
     }

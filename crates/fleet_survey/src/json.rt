@@ -83,11 +83,11 @@ fn promised(standing: Standing) -> &'static str {
 /// The numbers of the map and of the robots.
 fn write_sizes(out: &mut String, s: &Survey) -> Result<(), AllocError> {
     let (height, width, floor, edges) = (s.height, s.width, s.floor, s.edges);
-    let (robots, roomy, tight) = (s.robots, s.roomy.len(), s.tight.len());
+    let (robots, roomy, unroomy) = (s.robots, s.roomy.len(), s.unroomy.len());
     write!(out, "\"height\":{height},\"width\":{width},")?;
     write!(out, "\"floor\":{floor},\"edges\":{edges},")?;
     write!(out, "\"robots\":{robots},\"roomy\":{roomy},")?;
-    write!(out, "\"not_roomy\":{tight},")
+    write!(out, "\"not_roomy\":{unroomy},")
 }
 
 /// A survey as a JSON object, with what is told of a list of cells, if there is one.

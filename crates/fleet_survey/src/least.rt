@@ -6,7 +6,6 @@ ghost use Rattle.fleet_grid.specs.Floor.{Floor, IsFloor};
 ghost use Rattle.fleet_bridge.specs.Roominess.{AreRoomyFor};
 ghost use Rattle.fleet_survey.specs.Survey.{IsGreatestFor};
 
-use crate::chosen::number_at;
 use fleet_grid::Grid;
 
 /// The lesser of two numbers.
@@ -27,7 +26,7 @@ pub fn roomy_for(grid: &Grid, most: &[u32], cells: &[u32]) -> u32
 {
     let mut least = u32::MAX;
     for place in 0..cells.len() {
-        least = lesser(least, number_at(most, cells[place]));
+        least = lesser(least, most[cells[place] as usize]);
     }
     least
 }

@@ -56,10 +56,10 @@ fn write_end(out: &mut String, end: &DeadEnd) -> Result<(), AllocError> {
 
 /// The cells that are roomy, and the dead ends.
 fn write_roomy(out: &mut String, s: &Survey) -> Result<(), AllocError> {
-    let (robots, roomy, tight, ends) = (s.robots, s.roomy.len(), s.tight.len(), s.ends.len());
+    let (robots, roomy, unroomy, ends) = (s.robots, s.roomy.len(), s.unroomy.len(), s.ends.len());
     write!(out, "robots {robots}\n")?;
     write!(out, "roomy {roomy}\n")?;
-    write!(out, "not_roomy {tight}\n")?;
+    write!(out, "not_roomy {unroomy}\n")?;
     write!(out, "dead_ends {ends}\n")?;
     for end in s.ends.iter() {
         write_end(out, end)?;

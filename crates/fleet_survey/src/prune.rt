@@ -2,19 +2,17 @@
 //! is repeated until all floor cells are roomy.
 
 ghost use Rattle.std.specs.Prelude.{◌≡◌, length};
-ghost use Rattle.fleet_bridge.specs.Roominess.{AreRoomyFor};
 
-use crate::chosen::{is_roomy, is_tight, numbers_of};
+use crate::chosen::is_roomy;
 use fleet_grid::Grid;
 use fleet_map::MapText;
+use fleet_roomy::{UnroomyCells, unroomy_cells};
 use std::alloc::{AllocError, Global};
 use std::fmt::Write;
 
 /// The letter of a cell that stays floor if it is roomy.
-fn letter_of(grid: &Grid, most: &Vec<u32>, robots: u32, cell: u32) -> u8
-    requires { AreRoomyFor grid.now most.now.items }
-{
-    if is_roomy(grid, most, robots, cell) {
+fn letter_of(grid: &Grid, unroomy: &UnroomyCells, cell: u32) -> u8 {
+    if is_roomy(grid, unroomy, cell) {
         b'.'
     } else {
         b'@'
@@ -22,28 +20,20 @@ fn letter_of(grid: &Grid, most: &Vec<u32>, robots: u32, cell: u32) -> u8
 }
 
 /// Writes the letters of a map whose floor cells are the roomy ones.
-fn write_letters(grid: &Grid, most: &Vec<u32>, robots: u32, cells: &mut Vec<u8>)
-    requires { AreRoomyFor grid.now most.now.items }
+fn write_letters(grid: &Grid, unroomy: &UnroomyCells, cells: &mut Vec<u8>)
     ensures { length cells.new.items ≡ length cells.old.items }
 {
     for place in 0..cells.len() {
         if place < u32::MAX as usize {
-            cells[place] = letter_of(grid, most, robots, place as u32);
+            cells[place] = letter_of(grid, unroomy, place as u32);
         }
     }
 }
 
 /// The map whose floor cells are the roomy ones.
-fn without_tight(
-    alloc: Global,
-    grid: &Grid,
-    most: &Vec<u32>,
-    robots: u32,
-) -> Result<Grid, AllocError>
-    requires { AreRoomyFor grid.now most.now.items }
-{
+fn without(alloc: Global, grid: &Grid, unroomy: &UnroomyCells) -> Result<Grid, AllocError> {
     let mut cells = vec![in alloc; b'@'; grid.cell_count() as usize]?;
-    write_letters(grid, most, robots, &mut cells);
+    write_letters(grid, unroomy, &mut cells);
     Grid::new(MapText {
         height: grid.height(),
         width: grid.width(),
@@ -61,23 +51,11 @@ fn all_walls(alloc: Global, grid: &Grid) -> Result<Grid, AllocError> {
     })
 }
 
-/// Whether all floor cells are roomy.
-fn are_roomy(grid: &Grid, most: &Vec<u32>, robots: u32) -> bool
-    requires { AreRoomyFor grid.now most.now.items }
-{
-    for cell in 0..grid.cell_count() {
-        if is_tight(grid, most, robots, cell) {
-            return false;
-        }
-    }
-    true
-}
-
 /// The map without the cells that are not roomy, and whether there are none.
 fn next_map(alloc: Global, grid: &Grid, robots: u32) -> Result<(Grid, bool), AllocError> {
-    let most = numbers_of(alloc, grid)?;
-    let next = without_tight(alloc, grid, &most, robots)?;
-    Ok((next, are_roomy(grid, &most, robots)))
+    let unroomy = unroomy_cells(alloc, grid, robots)?;
+    let next = without(alloc, grid, &unroomy)?;
+    Ok((next, unroomy.count() == 0))
 }
 
 /// The map without the cells that are not roomy, nor those that are not roomy without them, and so on: all its floor

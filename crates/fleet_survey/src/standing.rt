@@ -18,12 +18,16 @@ pub enum Standing {
 }
 
 /// Which errands the promises are for, by the lists of bridges and of cells that are roomy and not.
-pub(crate) fn standing_of(bridges: &Vec<(u32, u32)>, roomy: &Vec<u32>, tight: &Vec<u32>) -> Standing
-    ensures { IsStandingBy (length bridges.now.items) (length roomy.now.items) (length tight.now.items) result }
+pub(crate) fn standing_of(
+    bridges: &Vec<(u32, u32)>,
+    roomy: &Vec<u32>,
+    unroomy: &Vec<u32>,
+) -> Standing
+    ensures { IsStandingBy (length bridges.now.items) (length roomy.now.items) (length unroomy.now.items) result }
 {
     if bridges.is_empty() {
         Standing::Bridgeless
-    } else if tight.is_empty() {
+    } else if unroomy.is_empty() {
         Standing::AllRoomy
     } else if roomy.is_empty() {
         Standing::NoneRoomy

@@ -3,11 +3,12 @@
 ghost use Rattle.std.specs.Prelude.{IfOk};
 ghost use Rattle.fleet_survey.specs.Survey.{IsSurvey};
 
-use crate::chosen::{numbers_of, roomy_cells, tight_cells};
+use crate::chosen::floor_cells;
 use crate::ends::{DeadEnd, dead_ends};
 use crate::standing::{Standing, standing_of};
-use fleet_bridge::bridges;
+use fleet_bridge::{bridges, roominess};
 use fleet_grid::Grid;
+use fleet_roomy::unroomy_by;
 use std::alloc::{AllocError, Global};
 
 /// What a map offers for a number of robots.
@@ -27,7 +28,7 @@ pub struct Survey {
     /// The cells that are roomy for the robots.
     pub roomy: Vec<u32>,
     /// The floor cells that are not.
-    pub tight: Vec<u32>,
+    pub unroomy: Vec<u32>,
     pub ends: Vec<DeadEnd>,
     /// For which errands the promises on waits are.
     pub standing: Standing,
@@ -37,12 +38,13 @@ pub struct Survey {
 pub fn survey_of(alloc: Global, grid: &Grid, robots: u32) -> Result<Survey, AllocError>
     ensures { IfOk result (IsSurvey grid.now robots) }
 {
-    let most = numbers_of(alloc, grid)?;
-    let tight = tight_cells(alloc, grid, &most, robots)?;
-    let roomy = roomy_cells(alloc, grid, &most, robots)?;
-    let ends = dead_ends(alloc, grid, &most, robots, &tight)?;
+    let most = roominess(alloc, grid)?;
+    let marked = unroomy_by(alloc, grid, &most, robots)?;
+    let unroomy = floor_cells(alloc, grid, &marked, true)?;
+    let roomy = floor_cells(alloc, grid, &marked, false)?;
+    let ends = dead_ends(alloc, grid, &marked, &unroomy)?;
     let bridges = bridges(alloc, grid)?;
-    let standing = standing_of(&bridges, &roomy, &tight);
+    let standing = standing_of(&bridges, &roomy, &unroomy);
     Ok(Survey {
         robots,
         height: grid.height(),
@@ -52,7 +54,7 @@ pub fn survey_of(alloc: Global, grid: &Grid, robots: u32) -> Result<Survey, Allo
         bridges,
         most,
         roomy,
-        tight,
+        unroomy,
         ends,
         standing,
     })

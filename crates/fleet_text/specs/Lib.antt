@@ -5,4 +5,6 @@ pub mod Complaint
 pub mod Transfer
 pub mod Outcome
 pub mod Said
+pub mod Pieces
+pub mod inside
 pub mod Kit

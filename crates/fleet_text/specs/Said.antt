@@ -2,6 +2,7 @@
 use Rattle.std.specs.Prelude.{string_bytes}
 use Rattle.fleet_text.specs.declared.said.Said.{Said}
 use Rattle.fleet_text.specs.Outcome.{Outcome}
+use Rattle.fleet_text.specs.Pieces.{pieces_text}
 
 abbrev pub said : Said → Outcome
-said s = record { output = string_bytes s.output; status = s.status; complaint = string_bytes s.complaint }
+said s = record { output = pieces_text s.output.items; status = s.status; complaint = string_bytes s.complaint }

@@ -1,4 +1,4 @@
-//! What the program prints of a run, line by line.
+//! What the program prints of an event.
 
 ghost use Rattle.std.specs.Prelude.{◌≡◌, ◌++◌, ◌∷◌, [], OnOk, IfOk, string_bytes, drop, codes, decimal, option_copied, Option, Some, None, slice_get, length, ◌≤◌};
 ghost use Rattle.fleet_history.specs.declared.history.Entry.{Entry};
@@ -228,7 +228,7 @@ pub fn write_event<A: Allocator + Copy>(
 }
 
 /// How many entries an event made, by its reply.
-fn made_by(reply: Reply) -> usize
+pub(crate) fn made_by(reply: Reply) -> usize
     ensures { result ≡ entries_made reply }
 {
     match reply {
@@ -238,7 +238,7 @@ fn made_by(reply: Reply) -> usize
 }
 
 /// The entries without the first, if the event with this reply made an entry.
-fn entries_after<A: Allocator + Copy>(entries: &[Entry<A>], reply: Reply) -> &[Entry<A>]
+pub(crate) fn entries_after<A: Allocator + Copy>(entries: &[Entry<A>], reply: Reply) -> &[Entry<A>]
     ensures { result.now ≡ drop (entries_made reply) entries.now }
 {
     let made = made_by(reply);
@@ -246,25 +246,4 @@ fn entries_after<A: Allocator + Copy>(entries: &[Entry<A>], reply: Reply) -> &[E
         return &[];
     }
     &entries[made..]
-}
-
-/// What the program prints of a run: the lines of its events, by their replies and by the entries that they made.
-pub fn report<A: Allocator + Copy>(
-    alloc: A,
-    events: &[Event],
-    replies: &[Reply],
-    entries: &[Entry<A>],
-) -> Result<String<A>, AllocError>
-    requires { length replies.now ≡ length events.now }
-    ensures { IfOk result (λ text. string_bytes text ≡ run_text events.now replies.now entries.now) }
-{
-    let mut text = String::new(alloc);
-    let mut rest = entries;
-    for place in 0..events.len() {
-        let event = events[place];
-        let reply = replies[place];
-        write_event(&mut text, event, reply, rest.first())?;
-        rest = entries_after(rest, reply);
-    }
-    Ok(text)
 }

@@ -6,6 +6,7 @@ ghost use Rattle.fleet_text.specs.Outcome.{IsMapNamed, fault};
 ghost use Rattle.fleet_text.specs.Said.{said};
 
 use crate::input::InputFault;
+use crate::pieces::Piece;
 use crate::texts::{MapFaultText, OpenFaultText, TraceFaultText};
 use fleet_map::MapFault;
 use fleet_trace::TraceFault;
@@ -86,7 +87,8 @@ impl fmt::Display for Complaint {
 /// What the program has to say, and its status.
 #[derive(Drop)]
 pub struct Said {
-    pub output: String,
+    /// The text for the output, in pieces.
+    pub output: Vec<Piece>,
     pub status: u8,
     pub complaint: String,
 }
@@ -113,7 +115,7 @@ pub fn faulty(alloc: Global, complaint: Complaint) -> Result<Said, AllocError>
     ensures { IfOk result (λ s. said s ≡ fault complaint) }
 {
     Ok(Said {
-        output: String::new(alloc),
+        output: Vec::new(alloc),
         status: complaint.status(),
         complaint: line_of(alloc, complaint)?,
     })

@@ -7,3 +7,4 @@ pub mod Refusals
 pub mod Sessions
 pub mod Collecting
 pub mod Leaving
+pub mod Answering

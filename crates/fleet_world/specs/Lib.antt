@@ -6,4 +6,5 @@ pub mod Talk
 pub mod Keeps
 pub mod Laws
 pub mod Played
+pub mod Answers
 pub mod inside

@@ -1,16 +1,20 @@
 //! A world with the lanes and outlets of its clients, on which events are done one by one (`Session`), and the run of a
-//! list of events from the opening of a world (`run`).
+//! list of events (`run`), or of a script's event lines (`run_lines`), from the opening of a world.
 #![tactic(auto)]
 
+mod answered;
 mod faults;
 mod leftovers;
+mod lines;
 mod play;
 mod reply;
 mod session;
 mod steps;
 mod waiting;
 
+pub use crate::answered::Answered;
 pub use crate::faults::RunFault;
+pub use crate::lines::{PlayedLines, run_lines};
 pub use crate::play::{Played, run};
 pub use crate::reply::Reply;
 pub use crate::session::Session;

@@ -1,1 +1,3 @@
 pub mod TwoCells
+pub mod FourGoals
+pub mod ShortWaits

@@ -9,6 +9,8 @@ mod bridges;
 #[cfg(test)]
 mod checks;
 #[cfg(test)]
+mod doors;
+#[cfg(test)]
 mod fields;
 #[cfg(test)]
 mod floor;
@@ -17,7 +19,13 @@ mod goals;
 #[cfg(test)]
 mod grids;
 #[cfg(test)]
+mod lendings;
+#[cfg(test)]
 mod plans;
+#[cfg(test)]
+mod room_sides;
+#[cfg(test)]
+mod rooms;
 #[cfg(test)]
 mod roomy;
 #[cfg(test)]

@@ -70,7 +70,7 @@ fn mark(rt: &impl Abort, marked: &mut Vec<bool>, stack: &mut Vec<u32>, cell: u32
 }
 
 /// The cells that walks from `to` reach without the edge between `from` and `to`.
-fn side(rt: &impl Abort, alloc: Global, grid: &Grid, from: u32, to: u32) -> Vec<bool> {
+pub(crate) fn side(rt: &impl Abort, alloc: Global, grid: &Grid, from: u32, to: u32) -> Vec<bool> {
     let mut marked = vec![in alloc; false; grid.cell_count() as usize].expect(
         rt,
         "memory for marks",

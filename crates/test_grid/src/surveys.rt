@@ -37,7 +37,7 @@ fn rings_for_four_robots(rt: HostRuntime) {
     assert!(rt; found.height == 3 && found.width == 7);
     assert!(rt; found.bridges.len() == 5 && found.roomy.len() == 11);
     // Only the stub is not roomy; its mouth is the middle of the corridor.
-    assert!(rt; found.tight.as_slice() == [17u32].as_slice());
+    assert!(rt; found.unroomy.as_slice() == [17u32].as_slice());
     assert!(rt; found.ends.len() == 1);
     for end in found.ends.iter() {
         assert!(rt; end.mouth == Some(10) && end.cells.as_slice() == [17u32].as_slice());
@@ -135,7 +135,7 @@ fn pruned_maps(rt: HostRuntime) {
     // the stubs are not roomy, but without them the end of the corridor is not, and then the rest of it.
     let fork = grid_of(&rt, rt.alloc(), 3, 4, b"@@@.......@.");
     let found = surveyed(&rt, rt.alloc(), &fork, 2);
-    assert!(rt; found.tight.as_slice() == [3u32, 11].as_slice() && found.roomy.len() == 6);
+    assert!(rt; found.unroomy.as_slice() == [3u32, 11].as_slice() && found.roomy.len() == 6);
     assert!(rt; has_floor(&rt, rt.alloc(), &fork, 2, [4u32, 5, 8, 9].as_slice()));
 }
 
@@ -143,7 +143,7 @@ fn pruned_maps(rt: HostRuntime) {
 fn is_whole(grid: &Grid, found: &Survey, cell: u32, cells: &[u32]) -> bool {
     for dir in Dir::ALL {
         if let Some(next) = grid.neighbour(cell, dir)
-            && found.tight.contains(&next)
+            && found.unroomy.contains(&next)
             && !cells.contains(&next)
         {
             return false;
@@ -158,12 +158,12 @@ fn are_ends(grid: &Grid, found: &Survey) -> bool {
     for end in found.ends.iter() {
         count = count.saturating_add(end.cells.len());
         for cell in end.cells.iter() {
-            if !found.tight.contains(cell) || !is_whole(grid, found, *cell, &end.cells) {
+            if !found.unroomy.contains(cell) || !is_whole(grid, found, *cell, &end.cells) {
                 return false;
             }
         }
     }
-    count == found.tight.len()
+    count == found.unroomy.len()
 }
 
 /// Whether each roomy cell next to a dead end is its mouth.

@@ -1,5 +1,5 @@
 -- The list of all bridges on the way: those that are done.
-use Rattle.std.specs.Prelude.{◌≡◌, ℕ, ◌+◌, ◌<◌, ◌≤◌, ◌⊎◌, List, [], ◌∷◌, Option, Some, None}
+use Rattle.std.specs.Prelude.{ℕ, ◌<◌, List, [], ◌∷◌, Option, Some, None}
 use Rattle.std.specs.List.{AllPairs, Contains}
 use Rattle.fleet_grid.specs.Walk.{IsBridge}
 use Rattle.fleet_bridge.specs.Bridges.{IsEarlier}

@@ -4,20 +4,23 @@ use Rattle.fleet_grid.specs.Floor.{Floor, HasForm, IsNeighbour, IsNeighbourIn}
 use Rattle.fleet_grid.specs.Step.{IsPlacement}
 use Rattle.fleet_grid.specs.declared.dir.Dir.{Dir}
 use Rattle.fleet_hooks.specs.declared.law.TieLaw.{TieLaw}
+use Rattle.fleet_pibt.specs.Door.{IsOpen, IsPassage}
+use Rattle.fleet_pibt.specs.declared.door.Door.{Door}
 use Rattle.fleet_pibt.specs.inside.Entry.{table, IsEmpty}
 use Rattle.fleet_pibt.specs.inside.Plan.{Vacant, Tidy, Edge, Shut, Grown, Failed}
 use Rattle.fleet_pibt.specs.Ties.{Undercuts}
 
--- the map, the placement, the goals with the distances to them, and the tie laws of one step
+-- the map, the placement, the goals with the distances to them, the tie laws and the shut door of one step
 pub record Setting : Type 0 where
   pub floor : Floor
   pub from : List ℕ
   pub goals : ℕ → Option ℕ
   pub distance : ℕ → ℕ → Option ℕ
   pub laws : List TieLaw
+  pub door : Option Door
 
-abbrev pub setting : Floor → List ℕ → (ℕ → Option ℕ) → (ℕ → ℕ → Option ℕ) → List TieLaw → Setting
-setting floor from goals distance laws = record { floor = floor; from = from; goals = goals; distance = distance; laws = laws }
+abbrev pub setting : Floor → List ℕ → (ℕ → Option ℕ) → (ℕ → ℕ → Option ℕ) → List TieLaw → Option Door → Setting
+setting floor from goals distance laws door = record { floor = floor; from = from; goals = goals; distance = distance; laws = laws; door = door }
 
 abbrev pub robots : Setting → ℕ
 robots s = length s.from
@@ -25,8 +28,13 @@ robots s = length s.from
 abbrev pub cell_of : Setting → ℕ → ℕ
 cell_of s robot = slice_index s.from robot
 
+-- an edge of the map
+abbrev pub adjacent : Setting → ℕ → ℕ → Type 0
+adjacent s a b = IsNeighbour s.floor a b
+
+-- an edge that a robot on a may cross
 abbrev pub near : Setting → ℕ → ℕ → Type 0
-near s a b = IsNeighbour s.floor a b
+near s a b = IsPassage s.floor s.door a b
 
 -- the distance to the goal; without a goal, whether the cell is another than the robot's
 abbrev pub cost_with : Option ℕ → Option ℕ → Bool → ℕ
@@ -108,7 +116,7 @@ pub record IsChoices (s : Setting) (robot : ℕ) (cells : List ℕ) : Type 0 whe
   pub own_first : (k : ℕ) → k < length cells → slice_index cells k ≢ cell_of s robot → cost s robot (cell_of s robot) ≤ cost s robot (slice_index cells k) → (j : ℕ) × (j < k) × (slice_index cells j ≡ cell_of s robot)
   -- the first is not one that the law of ties puts after another as near
   pub tied : (law : TieLaw) → slice_get s.laws robot ≡ Some law → (d e : Dir) (b : ℕ) → IsNeighbourIn s.floor d (cell_of s robot) (slice_index cells 0) → IsNeighbourIn s.floor e (cell_of s robot) b →
-      cost s robot b ≤ cost s robot (slice_index cells 0) → Undercuts law e d → ⊥
+      IsOpen s.door (cell_of s robot) b → cost s robot b ≤ cost s robot (slice_index cells 0) → Undercuts law e d → ⊥
 
 -- the robot has its first choice, or was refused it
 abbrev pub HasTried : Setting → List (Option ℕ) → List (Option ℕ) → List (Option ℕ) → ℕ → Type 0

@@ -31,3 +31,8 @@ pub record Shows {A : Type 0} (s : State A) (t : Talk A) (collected : List (List
 abbrev pub Leads : {A : Type 0} → Talk A → List (List Notice) → List Event → List Reply → Talk A → List (List Notice) → Type 0
 Leads {A} t before events replies u after =
     (s : State A) → IsFresh s → Shows s t before → (m : State A) × Run s events replies m × Shows m u after
+
+-- from any state of a run that a session shows first, a run of these events may lead to one that it shows then
+abbrev pub LeadsTo : {A : Type 0} → Talk A → List Event → List Reply → Talk A → Type 0
+LeadsTo {A} t events replies u =
+    (s : State A) → IsFresh s → forget s ≡ t → (m : State A) × Run s events replies m × (forget m ≡ u)

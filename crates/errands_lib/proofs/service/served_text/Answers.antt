@@ -10,4 +10,4 @@ returns-clause-legal c = IfOk-weaker c.ended.result _ _ (λ s h. c.in_ok-judge_s
 
 pub returns-clause-said : goal.returns-clause-said
 returns-clause-said c =
-    IfOk-weaker c.ended.result _ _ (λ s h. h ∙ ap (λ (text : List ℕ). limited (nat_lt 0 c.args.served.now.lane_full) text) c.in_ok-output.ensures) c.ended.ensures
+    IfOk-weaker c.ended.result _ _ (λ s h. h ∙ ap (λ (text : List ℕ). limited (nat_lt 0 c.args.served.now.lane_full) text) (c.in_ok-output.ensures ∙ c.in_ok-trace_line.ensures)) c.ended.ensures

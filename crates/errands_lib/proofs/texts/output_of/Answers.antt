@@ -12,4 +12,4 @@ same_trace n k h g p q = rw (p, q) refl
 pub returns-then-trace : goal.returns-then-trace
 returns-then-trace g c =
     let same = same_trace c.chapter-chapter.result.now.number c.args.played.now.world.core.number (history_of c.chapter-chapter.result.now) c.args.played.now.world.core.history c.chapter-chapter.ensures.number c.chapter-chapter.ensures.history in
-    rw c.if-trace.true (IfOk-weaker c.trace_line.result _ _ (λ s e. e ∙ ap (λ t. trace_text t ++ codes "\n") same) c.trace_line.ensures)
+    rw c.if-trace.true (IfOk-weaker c.whole.result _ _ (λ s e. e ∙ (c.in_ok-trace_line.ensures ∙ ap (λ t. trace_text t ++ codes "\n") same)) c.whole.ensures)

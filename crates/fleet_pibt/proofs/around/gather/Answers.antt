@@ -18,10 +18,10 @@ loop-robot-preserved g c =
     let seen = c.loop-robot.arounds in
     let robot = c.loop-robot.robot in
     let inside = seen-at seen robot _ (omega (arith, c.loop-robot-test.true, c.loop-robot.auto.arounds)) in
-    let asked : IsAsked m (g.G.Guide.goal_of goals robot) (g.G.Guide.distance goals m robot) (slice_index from robot) c.look.result.nearer.byte c.look.result.exits.byte =
-    rw (c.look.ensures.nearer, c.look.ensures.exits) (c.loop-robot.invariant.0 robot _ inside) in (
-      seen-all (λ r around. IsAsked m (g.G.Guide.goal_of goals r) (g.G.Guide.distance goals m r) (slice_index from r) around.nearer.byte around.exits.byte) seen robot c.look.result c.loop-robot.invariant.0 asked,
-      seen-more (λ r around. IsAround m (slice_index from r) around) seen robot c.look.result c.loop-robot.invariant.1 c.look.ensures.cells,
+    let asked : IsAsked m (g.G.Guide.goal_of goals robot) (g.G.Guide.distance goals m robot) (slice_index from robot) c.with_door.result.nearer.byte c.with_door.result.exits.byte =
+    rw (c.with_door.ensures.nearer, c.with_door.ensures.exits, c.look.ensures.nearer, c.look.ensures.exits) (c.loop-robot.invariant.0 robot _ inside) in (
+      seen-all (λ r around. IsAsked m (g.G.Guide.goal_of goals r) (g.G.Guide.distance goals m r) (slice_index from r) around.nearer.byte around.exits.byte) seen robot c.with_door.result c.loop-robot.invariant.0 asked,
+      seen-more (λ r around. IsAround m c.args.door (slice_index from r) around) seen robot c.with_door.result c.loop-robot.invariant.1 (c.with_door.ensures.cells m (slice_index from robot) c.look.ensures.cells),
     )
 
 pub look-requires-clause-exits : goal.look-requires-clause-exits

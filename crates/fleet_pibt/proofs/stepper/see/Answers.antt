@@ -17,7 +17,7 @@ pub gather-requires-clause-shows : goal.gather-requires-clause-shows
 gather-requires-clause-shows g c = c.requires.shows
 
 pub fetch-requires-clause-inside : goal.fetch-requires-clause-inside
-fetch-requires-clause-inside g c = rw c.requires.cells (sides-inside c.args.grid.now _ _ c.args.from.now c.gather.new.arounds c.in_ok-gather.ensures.arounds c.requires.floor)
+fetch-requires-clause-inside g c = rw c.requires.cells (sides-inside c.args.grid.now c.args.door _ _ c.args.from.now c.gather.new.arounds c.in_ok-gather.ensures.arounds c.requires.floor)
 
 pub fetch-requires-clause-empty : goal.fetch-requires-clause-empty
 fetch-requires-clause-empty g c = c.requires.nobody

@@ -1,4 +1,4 @@
-use Rattle.std.proofs.Common.{◌≡◌, Option, sym, ap, subst}
+use Rattle.std.proofs.Common.{Option, sym, ap, subst}
 use Rattle.std.specs.Prelude.{IfOk}
 use Rattle.fleet_grid.specs.Ways.{AreNearer}
 use Rattle.fleet_field.proofs.Grown.{grown_serves}

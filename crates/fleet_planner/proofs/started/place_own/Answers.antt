@@ -1,5 +1,5 @@
-use Rattle.std.proofs.Common.{refl, ◌∙◌, arith}
-use Rattle.fleet_planner.proofs.Starts.{placing-more, placing-all}
+use Rattle.std.proofs.Common.{refl}
+use Rattle.fleet_planner.proofs.Starts.{placing-all}
 use Rattle.fleet_planner.proofs.started.place_own.Goals as goal
 
 pub loop-at-init : goal.loop-at-init

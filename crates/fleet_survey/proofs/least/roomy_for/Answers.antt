@@ -1,4 +1,5 @@
-use Rattle.std.proofs.Common.{◌≡◌, ◌<◌, ℕ, length, subst, arith}
+use Rattle.std.proofs.Common.{◌≡◌, ◌<◌, ℕ, length, refl, subst, arith}
+use Rattle.std.specs.Prelude.{slice_index}
 use Rattle.fleet_survey.proofs.Sets.{AreWithin, within_none, within_more, within_all}
 use Rattle.fleet_survey.proofs.least.roomy_for.Goals as goal
 
@@ -10,7 +11,7 @@ loop-place-preserved c =
     let cells = c.args.cells.now in
     let place = c.loop-place.place in
     let inside : place < length cells = c.loop-place-test.true in
-    within_more c.args.grid.now c.args.most.now cells place c.loop-place.least c.number_at.result c.lesser-least.result c.requires.numbers c.requires.floor inside c.loop-place.invariant c.number_at.ensures c.lesser-least.ensures.first c.lesser-least.ensures.second c.lesser-least.ensures.either
+    within_more c.args.grid.now c.args.most.now cells place c.loop-place.least (slice_index c.args.most.now (slice_index cells place)) c.lesser-least.result c.requires.numbers c.requires.floor inside c.loop-place.invariant refl c.lesser-least.ensures.first c.lesser-least.ensures.second c.lesser-least.ensures.either
 
 pub returns : goal.returns
 returns c =

@@ -6,13 +6,13 @@ use Rattle.fleet_pibt.proofs.scene.Scene.moving.Goals as goal
 pub returns-then-cell-around-clause-covers : goal.returns-then-cell-around-clause-covers
 returns-then-cell-around-clause-covers g c =
     let seen = c.requires.whole.gathered.each c.args.robot c.args.around c.requires.seen in
-    stay-covers _ _ c.args.dir _ c.beside-cell.result seen c.beside-cell.ensures _ c.if-cell-around.true c.staying.ensures.own
+    stay-covers _ _ _ c.args.dir _ c.beside-cell.result seen c.beside-cell.ensures _ c.if-cell-around.true c.staying.ensures.own
 
 pub returns-clause-candidate : goal.returns-clause-candidate
 returns-clause-candidate g c =
     let seen = c.requires.whole.gathered.each c.args.robot c.args.around c.requires.seen in
     let self = c.args.self.now in
-    let s : Setting = setting self.grid.now self.from.now (g.G.Guide.goal_of self.goals.now) (g.G.Guide.distance self.goals.now self.grid.now) (map (λ h. h.law) self.ties.now) in
+    let s : Setting = setting self.grid.now self.from.now (g.G.Guide.goal_of self.goals.now) (g.G.Guide.distance self.goals.now self.grid.now) (map (λ h. h.law) self.ties.now) self.door in
     candidate-from s c.args.robot c.args.dir _ c.beside-cell.result c.cost_beside.result c.rank.result c.rank_beside.result c.number.result c.has.result _ seen c.beside-cell.ensures c.if-cell-around.false
     (c.requires.whole.rated c.args.robot c.args.around c.requires.seen c.args.dir)
     c.has.ensures c.cost_beside.ensures
@@ -22,7 +22,7 @@ returns-clause-candidate g c =
 pub returns-clause-covers : goal.returns-clause-covers
 returns-clause-covers g c =
     let seen = c.requires.whole.gathered.each c.args.robot c.args.around c.requires.seen in
-    spot-covers _ _ c.args.dir _ c.beside-cell.result seen c.beside-cell.ensures
+    spot-covers _ _ _ c.args.dir _ c.beside-cell.result seen c.beside-cell.ensures
 
 pub staying-requires-clause-whole : goal.staying-requires-clause-whole
 staying-requires-clause-whole g c = c.requires.whole

@@ -1,6 +1,8 @@
-use Rattle.std.proofs.Common.{◌≡◌, ℕ, ◌<◌, List, [], ◌∷◌, map, slice_index, refl, subst, arith, zero, suc}
+use Rattle.std.proofs.Common.{◌≡◌, ℕ, ◌<◌, Option, List, [], ◌∷◌, map, slice_index, refl, subst, arith, zero, suc}
 use Rattle.std.specs.List.{All, Contains}
 use Rattle.std.specs.List.Sorted.{IsPermutation}
+use Rattle.fleet_pibt.specs.Door.{IsOpen}
+use Rattle.fleet_pibt.specs.declared.door.Door.{Door}
 use Rattle.fleet_pibt.specs.inside.Candidate.{IsCandidate, IsSmall, key_of}
 use Rattle.fleet_grid.specs.Floor.{Floor, IsNeighbourIn}
 use Rattle.fleet_pibt.specs.inside.Setting.{Setting, setting}
@@ -12,13 +14,13 @@ use Rattle.fleet_pibt.proofs.Choices.{choices-from}
 use Rattle.fleet_pibt.proofs.Seen.{seen-at}
 use Rattle.fleet_pibt.proofs.scene.SceneSight.choices.Goals as goal
 
-covers-from : (m : Floor) (from : ℕ) (own a b c d : Candidate) → ((w : ℕ) → IsNeighbourIn m North from w → a.cell ≡ w) → ((w : ℕ) → IsNeighbourIn m East from w → b.cell ≡ w) →
-    ((w : ℕ) → IsNeighbourIn m South from w → c.cell ≡ w) → ((w : ℕ) → IsNeighbourIn m West from w → d.cell ≡ w) →
-    (w : ℕ) → (dir : Dir) → IsNeighbourIn m dir from w → (x : Candidate) × Contains (own ∷ a ∷ b ∷ c ∷ d ∷ []) x × (x.cell ≡ w)
-covers-from m from own a b c d n e f g w North h = (a, (1, omega arith, refl), n w h)
-covers-from m from own a b c d n e f g w East h = (b, (2, omega arith, refl), e w h)
-covers-from m from own a b c d n e f g w South h = (c, (3, omega arith, refl), f w h)
-covers-from m from own a b c d n e f g w West h = (d, (4, omega arith, refl), g w h)
+covers-from : (m : Floor) (door : Option Door) (from : ℕ) (own a b c d : Candidate) → ((w : ℕ) → IsNeighbourIn m North from w → IsOpen door from w → a.cell ≡ w) → ((w : ℕ) → IsNeighbourIn m East from w → IsOpen door from w → b.cell ≡ w) →
+    ((w : ℕ) → IsNeighbourIn m South from w → IsOpen door from w → c.cell ≡ w) → ((w : ℕ) → IsNeighbourIn m West from w → IsOpen door from w → d.cell ≡ w) →
+    (w : ℕ) → (dir : Dir) → IsNeighbourIn m dir from w → IsOpen door from w → (x : Candidate) × Contains (own ∷ a ∷ b ∷ c ∷ d ∷ []) x × (x.cell ≡ w)
+covers-from m door from own a b c d n e f g w North h o = (a, (1, omega arith, refl), n w h o)
+covers-from m door from own a b c d n e f g w East h o = (b, (2, omega arith, refl), e w h o)
+covers-from m door from own a b c d n e f g w South h o = (c, (3, omega arith, refl), f w h o)
+covers-from m door from own a b c d n e f g w West h o = (d, (4, omega arith, refl), g w h o)
 
 all-five : (P : Candidate → Type 0) (a b c d e : Candidate) → P a → P b → P c → P d → P e → All P (a ∷ b ∷ c ∷ d ∷ e ∷ [])
 all-five P a b c d e pa pb pc pd pe zero x l = pa
@@ -85,7 +87,7 @@ returns g c =
     let self = c.args.self.now in
     let m = self.grid.now in
     let from = self.from.now in
-    let s : Setting = setting m from (g.G.Guide.goal_of self.goals.now) (g.G.Guide.distance self.goals.now self.grid.now) (map (λ h. h.law) self.ties.now) in
+    let s : Setting = setting m from (g.G.Guide.goal_of self.goals.now) (g.G.Guide.distance self.goals.now self.grid.now) (map (λ h. h.law) self.ties.now) self.door in
     let scene = c.requires.whole.scene in
     let small : 0 < m.width = wide m (slice_index from robot) scene.form (scene.placed.on_floor robot c.requires.known) in
     let old : List Candidate = c.staying.result ∷ c.moving.result ∷ c.moving-2.result ∷ c.moving-3.result ∷ c.moving-4.result ∷ [] in
@@ -95,4 +97,4 @@ returns g c =
     (all-five IsSmall _ _ _ _ _ c.key.ensures.small c.key-2.ensures.small c.key-3.ensures.small c.key-4.ensures.small c.key-5.ensures.small)
     (all-five (IsCandidate s robot) _ _ _ _ _ c.staying.ensures.candidate c.moving.ensures.candidate c.moving-2.ensures.candidate c.moving-3.ensures.candidate c.moving-4.ensures.candidate)
     (0, omega arith, refl) c.staying.ensures.own c.staying.ensures.rank
-    (λ w n. covers-from m (slice_index from robot) c.staying.result c.moving.result c.moving-2.result c.moving-3.result c.moving-4.result c.moving.ensures.covers c.moving-2.ensures.covers c.moving-3.ensures.covers c.moving-4.ensures.covers w n.0 n.1))
+    (λ w n. covers-from m self.door (slice_index from robot) c.staying.result c.moving.result c.moving-2.result c.moving-3.result c.moving-4.result c.moving.ensures.covers c.moving-2.ensures.covers c.moving-3.ensures.covers c.moving-4.ensures.covers w n.0.0 n.0.1 n.1))

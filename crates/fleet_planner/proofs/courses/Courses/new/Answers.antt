@@ -1,8 +1,4 @@
-use Rattle.std.proofs.Common.{◌≡◌, ℕ, List, Option, None, length, map, replicate, refl, sym, ap, ◌∙◌, arith}
-use Rattle.std.proofs.lemmas.List.{length-replicate}
 use Rattle.fleet_planner.proofs.Merged.{fields-none, merged-none, none-own}
-use Rattle.fleet_planner.specs.Courses.{own_goal, merged}
-use Rattle.fleet_planner.specs.Aims.{goals_of as shared_goals}
 use Rattle.fleet_planner.proofs.courses.Courses.new.Goals as goal
 
 pub returns-clause-none : goal.returns-clause-none

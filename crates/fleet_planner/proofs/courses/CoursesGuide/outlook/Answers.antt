@@ -1,12 +1,11 @@
 -- What the robot sees, by its own field or by the shared one.
-use Rattle.std.proofs.Common.{◌≡◌, ◌<◌, ◌≤◌, ℕ, List, Option, Some, None, IsSome, length, map, set, slice_index_or, refl, sym, ap, subst, ◌∙◌, arith}
-use Rattle.std.specs.Prelude.{IfOk}
+use Rattle.std.proofs.Common.{◌≡◌, ◌<◌, ◌≤◌, ℕ, List, Option, None, IsSome, length, map, set, slice_index_or, sym, ap, subst, ◌∙◌, arith}
 use Rattle.std.proofs.lemmas.Bool.{false≢true}
 use Rattle.std.proofs.lemmas.List.{get_or_past}
 use Rattle.fleet_grid.specs.Floor.{Floor}
 use Rattle.fleet_grid.specs.Ways.{AreNearer}
 use Rattle.fleet_planner.specs.Aims.{goal_in, goal as shared_goal}
-use Rattle.fleet_planner.specs.Courses.{Courses, goals_of, goal, growth_in, own_goal, first_of, way_to, AreOn, AreStill}
+use Rattle.fleet_planner.specs.Courses.{Courses, goal, growth_in, own_goal, first_of, way_to, AreOn, AreStill}
 use Rattle.fleet_planner.proofs.Merged.{own-at, goal-at, goal-past, still-set, still_goals, on-set}
 use Rattle.fleet_planner.proofs.Refused.{if_ok_map}
 use Rattle.fleet_planner.proofs.courses.CoursesGuide.outlook.Goals as goal

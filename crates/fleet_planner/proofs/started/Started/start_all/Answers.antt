@@ -1,10 +1,8 @@
-use Rattle.std.proofs.Common.{◌≡◌, ℕ, ◌+◌, List, [], ◌∷◌, ◌++◌, Option, None, length, map, take, get_or, vec_len, vec_capacity, refl, sym, ap, subst, ◌∙◌, arith}
-use Rattle.std.proofs.lemmas.List.{take_more, take_all, map_push}
-use Rattle.std.proofs.lemmas.Option.{slice_get-get_or}
-use Rattle.std.proofs.lemmas.Result.{IfOk-from_err}
+use Rattle.std.proofs.Common.{◌≡◌, ℕ, ◌+◌, List, [], ◌∷◌, ◌++◌, Option, None, length, map, take, get_or, vec_len, vec_capacity, sym, ap, subst, ◌∙◌, arith}
+use Rattle.std.proofs.lemmas.List.{take_more, map_push}
 use Rattle.fleet_field.specs.Growing.{Growth}
 use Rattle.fleet_planner.specs.Courses.{growth_in}
-use Rattle.fleet_planner.specs.inside.Started.{AreStarts, shared_part, shared_parts}
+use Rattle.fleet_planner.specs.inside.Started.{AreStarts, shared_parts}
 use Rattle.fleet_planner.specs.declared.turns.GoalChange.{GoalChange}
 use Rattle.fleet_planner.proofs.Starts.{starts-push, parts-push}
 use Rattle.fleet_planner.proofs.started.Started.start_all.Goals as goal

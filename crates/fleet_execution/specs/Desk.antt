@@ -1,0 +1,34 @@
+-- What an execution keeps, as functions of robots, steps and cells.
+use Rattle.std.specs.Prelude.{ℕ, zero, suc, List, Option, Some, None}
+use Rattle.execution_law.specs.declared.clearance.Clearance.{Clearance}
+use Rattle.fleet_execution.specs.declared.robot.Robot.{Robot}
+use Rattle.fleet_execution.specs.declared.robot.Leave.{Leave}
+use Rattle.fleet_execution.specs.declared.robot.Planned.{Planned}
+use Rattle.fleet_execution.specs.declared.robot.Turning.{Turning}
+
+-- `window r t` is what step t has for robot r, and `unreached` is by step modulo `ahead`
+pub record Desk : Type 0 where
+  pub clearance : Clearance
+  pub count : ℕ
+  pub cells : ℕ
+  pub ahead : ℕ
+  pub steps : ℕ
+  pub robot : ℕ → Robot
+  pub window : ℕ → ℕ → Planned
+  pub unreached : ℕ → ℕ
+  pub leave : ℕ → Option Leave
+  pub ready : List ℕ
+  pub turning : Option Turning
+
+abbrev pub leaver : Option Leave → ℕ → ℕ
+leaver None r = r
+leaver (Some l) r = l.robot
+
+-- the robot that leaves the cell which robot r enters in step t; itself if there is none
+abbrev pub before_in : (ℕ → ℕ → Planned) → ℕ → ℕ → ℕ
+before_in window t r = leaver (window r t).after r
+
+-- the robot to which k such steps lead
+abbrev pub chain : (ℕ → ℕ) → ℕ → ℕ → ℕ
+chain f r zero = r
+chain f r (suc k) = f (chain f r k)

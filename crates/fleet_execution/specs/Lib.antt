@@ -1,0 +1,9 @@
+pub mod Course
+pub mod Queue
+pub mod Desk
+pub mod Executes
+pub mod Asked
+pub mod Stepped
+pub mod Kept
+pub mod State
+pub mod Given

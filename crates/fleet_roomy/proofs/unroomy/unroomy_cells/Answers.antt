@@ -1,0 +1,8 @@
+-- The numbers that were found say how roomy each cell is.
+use Rattle.std.proofs.Common.{ℕ, List, sym, subst, arith}
+use Rattle.fleet_bridge.specs.Roominess.{AreRoomyFor}
+use Rattle.fleet_roomy.proofs.unroomy.unroomy_cells.Goals as goal
+
+pub unroomy_by-requires : goal.unroomy_by-requires
+unroomy_by-requires g c =
+    subst (λ (xs : List ℕ). AreRoomyFor c.args.grid.now xs) (sym c.deref.ensures.value) (record { size = omega (arith, c.in_ok-most.ensures.size, c.in_ok-most.most.ok.0); each = c.in_ok-most.ensures.exact })

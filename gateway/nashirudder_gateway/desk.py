@@ -1,0 +1,230 @@
+"""The desk: posts errands to the fleet for the gateway's clients, and keeps what became of them."""
+
+import asyncio
+import collections
+import concurrent.futures
+import logging
+import sqlite3
+import time
+from typing import Any, Callable, Deque, Optional
+
+from nashirudder.errors import FleetError, Missing, Refused
+from nashirudder.events import Arrived, Event, Judged, Moved, NotPosted, Over, Posted
+from nashirudder.stream import FleetStream
+
+from . import chapters, recovery
+from .errand import Errand
+from .journal import Batch
+from .ledger import Ledger, Withdrawal
+from .site import Site
+
+log = logging.getLogger("nashirudder_gateway")
+
+# Verdicts after which the same post may succeed later
+AGAIN = ("queue-full", "lane-full")
+# How many errands may be open, and how many posts be without a verdict: the fleet's mailbox then always has room
+MOST_OPEN, MOST_UNANSWERED = 60_000, 5_000
+# Seconds between looks at the chapters, and after which something is stuck
+FOLLOW_EVERY, STUCK = 1.0, 10.0
+HOUR, DAY = 3600.0, 86_400.0
+
+
+class Wrong(Exception):
+    """The fleet does not agree with the journal: it has to be started again, and compared."""
+
+
+class Desk(Ledger):
+    """A ledger with its fleet. `run` keeps the fleet until `close`; a fleet that ends is started again."""
+
+    def __init__(self, site: Site, tell: Callable[..., None], keep_days: float = 7.0) -> None:
+        super().__init__(site, tell)
+        self.keep_days = keep_days
+        self.fleet: Optional[FleetStream] = None
+        self.is_ready, self.is_closing, self.trouble = False, False, "the fleet has not started yet"
+        self.outbox: Deque[Any] = collections.deque()
+        self.next_number = 1
+        self.latest_turn, self.busy_since = time.monotonic(), 0.0
+        self._wake = asyncio.Event()
+        self._disk = concurrent.futures.ThreadPoolExecutor(1, "journal")
+        self._cleaned, self._in_hand = 0.0, 0
+
+    # ---- what clients ask for
+
+    def refusal(self) -> Optional[str]:
+        """Why nothing can be posted now, or None."""
+        if not self.is_ready:
+            return "not-ready"
+        if self.unanswered > MOST_UNANSWERED:
+            return "behind"
+        return "full" if self.open_of.total() >= MOST_OPEN else None
+
+    @property
+    def unanswered(self) -> int:
+        """How many orders have no answer of the fleet yet."""
+        return len(self.outbox) + self._in_hand + (0 if self.fleet is None else self.fleet.unanswered)
+
+    def post(self, owner: str, robot: int, cell: int, key: Optional[str]) -> Errand:
+        """A new errand, which is on the disk before the fleet hears of it. `refusal` and the key were looked at."""
+        errand = self.journal.add(owner, key, robot, cell)
+        self.open_of[owner] += 1
+        self.outbox.append(errand)
+        self._wake.set()
+        return errand
+
+    def take_back(self, errand: Errand) -> "asyncio.Future[Optional[str]]":
+        """Posts the withdrawal of an accepted errand. A future of its verdict; None if the fleet ends before."""
+        answer: "asyncio.Future[Optional[str]]" = asyncio.get_running_loop().create_future()
+        self.outbox.append(Withdrawal(errand, answer))
+        self._wake.set()
+        return answer
+
+    async def withdraw(self, errand: Errand, seconds: float) -> Optional[str]:
+        """The verdict of its withdrawal, or None if it has none in time."""
+        answer = self.take_back(errand)
+        await asyncio.wait((answer,), timeout=seconds)
+        return answer.result() if answer.done() else None
+
+    def wake(self) -> None:
+        """Something is to be posted, or written down."""
+        self._wake.set()
+
+    # ---- the fleet's life
+
+    async def run(self) -> None:
+        """Keeps a fleet until `close` is called. Raises what no later start can mend."""
+        was_here = False
+        while not self.is_closing:
+            try:
+                self.fleet = await self.site.start()
+                was_here = True
+                if not self.is_closing:
+                    await self._serve(self.fleet)
+            except (Refused, Missing):
+                raise
+            except (FleetError, Wrong, chapters.Gap, OSError) as error:
+                in_use = "is in use by another fleet" in str(error)
+                if not was_here and not in_use:
+                    raise
+                log.warning("not ready: %s", error)
+                self._stop(str(error))
+            if self.fleet is not None:
+                await self.fleet.close(STUCK)
+            if not self.is_closing:
+                await asyncio.sleep(0.5)
+        await self._write_down()
+        self._disk.shutdown()
+        self.journal.close()
+        self.lock.close()
+
+    async def _serve(self, fleet: FleetStream) -> None:
+        """Recovers, and then posts and hears until the fleet ends or something is wrong."""
+        await recovery.recover(self, fleet)
+        self.is_ready, self.trouble, self.latest_turn = True, "", time.monotonic()
+        log.info("ready at tick %d", self.tick)
+        tasks = [asyncio.ensure_future(it) for it in (self._hear(fleet), self._post(fleet), self._follow(fleet))]
+        try:
+            done, _ = await asyncio.wait(tasks, return_when=asyncio.FIRST_COMPLETED)
+            for task in done:
+                task.result()
+        finally:
+            for task in tasks:
+                task.cancel()
+            await asyncio.gather(*tasks, return_exceptions=True)
+            self._stop("the fleet ended")
+
+    def _stop(self, trouble: str) -> None:
+        self.is_ready, self.trouble, self.busy_since = False, trouble, 0.0
+        self.let_go([it.answer for it in self.outbox if isinstance(it, Withdrawal)])
+        self.outbox.clear()
+        self._in_hand = 0
+
+    async def close(self) -> None:
+        """Lets the fleet end: what was posted is judged, and the last chapter is written."""
+        self.is_closing = True
+        if self.fleet is not None:
+            await self.fleet.close(60)
+
+    # ---- the three tasks
+
+    async def _post(self, fleet: FleetStream) -> None:
+        """Errands go to the disk, and then to the fleet, in the order of their numbers."""
+        while True:
+            await self._wake.wait()
+            self._wake.clear()
+            orders = list(self.outbox)
+            self.outbox.clear()
+            self._in_hand = len(orders)
+            for order in orders:
+                if isinstance(order, Errand):
+                    order.number = self.next_number
+                    self.by_number[self.next_number] = order
+                    self.journal.note(order)
+                self.next_number += 1
+            await self._write_down()
+            for order in orders:
+                if isinstance(order, Errand):
+                    fleet.go(order.robot, order.cell, note=order)
+                else:
+                    fleet.withdraw(order.errand.accepted, note=order)
+            self._in_hand = 0
+            self.busy_since = time.monotonic()
+            await fleet.drain()
+            self.busy_since = 0.0
+
+    async def _write_down(self) -> None:
+        batch = self.journal.batch()
+        if batch is not None:
+            self.busy_since = time.monotonic()
+            while not await self._is_written(batch):
+                await asyncio.sleep(1)
+            self.busy_since = 0.0
+            self.journal.settle(batch)
+
+    async def _is_written(self, batch: Batch) -> bool:
+        try:
+            await asyncio.get_running_loop().run_in_executor(self._disk, self.journal.write, batch)
+        except sqlite3.Error as error:
+            self.trouble, self.is_ready = f"the journal cannot be written: {error}", False
+            log.error("%s", self.trouble)
+            return False
+        if self.trouble.startswith("the journal") and not self.is_closing:
+            self.trouble, self.is_ready = "", True
+        return True
+
+    async def _follow(self, fleet: FleetStream) -> None:
+        """Notes which verdicts and arrivals are in chapters on the disk, and looks whether the fleet answers."""
+        loop = asyncio.get_running_loop()
+        while True:
+            await asyncio.sleep(FOLLOW_EVERY)
+            self.robots.eldest = (await asyncio.wait_for(fleet.look(), STUCK)).eldest
+            kept = await loop.run_in_executor(None, chapters.read, self.site.chapters, self.journal.next_chapter, True)
+            if kept.next_chapter != self.journal.next_chapter:
+                self.take_in(kept)
+            if time.time() > self._cleaned + HOUR:
+                self._cleaned = time.time()
+                before = self._cleaned - self.keep_days * DAY
+                await loop.run_in_executor(self._disk, self.journal.remove_before, before)
+            self._wake.set()
+
+    async def _hear(self, fleet: FleetStream) -> None:
+        async for event in fleet:
+            self.heard(event)
+
+    def heard(self, event: Event) -> None:
+        if isinstance(event, Moved):
+            self.tick, self.latest_turn = event.tick, time.monotonic()
+            self.robots.cells = event.cells
+            self.tell("tick", event.tick, event.cells)
+        elif isinstance(event, Judged):
+            self.judged(event)
+        elif isinstance(event, Arrived):
+            errand = event.note if event.note is not None else self.by_accepted.get(event.errand)
+            if errand is not None:
+                self.arrived(errand, event.tick)
+        elif isinstance(event, Posted):
+            if isinstance(event.note, Errand) and event.note.number != event.number:
+                raise Wrong("an order has another number than was written down")
+        elif isinstance(event, NotPosted):
+            raise Wrong(f"an order was not posted: {event.name}")
+        elif isinstance(event, Over) and not self.is_closing:
+            raise Wrong(f"the fleet ended with status {event.status}: {event.complaint}")
