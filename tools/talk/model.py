@@ -1,19 +1,20 @@
 #!/usr/bin/env python3
 """A conversation with a fleet once more: an independent model of `fleet talk`, written from docs/PROTOCOL.md over the model of `errands`.
 
-usage: tools/talk/model.py [--marks] [--roll] [--resume CHAPTER] MAP [SCRIPT] < LINES
+usage: tools/talk/model.py [--marks] [--roll] [--roomy] [--resume CHAPTER] MAP [SCRIPT] < LINES
        tools/talk/model.py --cases FILE
 
 Answers as `fleet talk` does: output, error text, status. With --resume the fleet goes on from the file of a chapter, DIR/chapter-N.json. With
 --cases it reads the section `talk` of crates/golden_errands/stdin and prints what golden_errands has to print of it.
-`talk(map, script, lines, marks, roll, kept)` returns (output, error text, status); `kept` is the name of a chapter's file, its number and its
-text. Standard library only.
+`talk(map, script, lines, marks, roll, kept, roomy)` returns (output, error text, status); `kept` is the name of a chapter's file, its number and
+its text. The error text begins with the warning that cells are not roomy, if there is one. Standard library only.
 """
 import os
 import re
 import sys
 
 sys.path.insert(0, os.path.join(os.path.dirname(os.path.abspath(__file__)), "..", "reference"))
+import laws
 import model
 
 MOST = 8192
@@ -262,16 +263,42 @@ def new_rings(w):
     return rings
 
 
+def unroomy_cells(grid, robots):
+    """The floor cells that are not roomy for so many robots, by definition."""
+    letters = grid.cells.decode("latin-1")
+    floor = laws.Map([letters[at:at + grid.width] for at in range(0, len(letters), grid.width)])
+    return floor.floor - floor.roomy(robots)
+
+
 class Talk:
-    def __init__(self, grid, head, marks, roll):
-        self.grid, self.head, self.marks, self.roll = grid, head, marks, roll
+    def __init__(self, grid, head, marks, roll, roomy):
+        self.grid, self.head, self.marks, self.roll, self.roomy = grid, head, marks, roll, roomy
         self.world, self.out, self.limited = None, [], False
+        # the cells to which posts are refused, and what is said of those that are not roomy
+        self.refused, self.warning = set(), ""
 
     def resume(self, name, number, text):
         """The fleet goes on from a chapter, and is open."""
         self.world, self.head.limits = reopened(self.grid, self.head, name, number, text)
         self.head.clients = len(self.world.taken)
         self.rings = new_rings(self.world)
+        self.find_door()
+        for client in range(self.head.clients):
+            for robot, queue in enumerate(self.world.queues):
+                for owner, _, cell in queue:
+                    if owner == client and cell in self.refused:
+                        why = f"an errand of client {client} for robot {robot} goes to cell {cell}, which is not roomy"
+                        raise model.Stop(6, f"fleet: file {name}: {why}")
+
+    def find_door(self):
+        """Finds the cells that are not roomy for the robots of the open fleet."""
+        robots = len(self.world.place)
+        unroomy = unroomy_cells(self.grid, robots)
+        if self.roomy:
+            self.refused = unroomy
+        elif unroomy:
+            told = f"{len(unroomy)} of {self.grid.floor_count()} cells are not roomy for {robots} robots"
+            self.warning = f"fleet: {told}: errands there may block the fleet for ever\n"
 
     def say(self, mark, lines):
         for line in lines:
@@ -281,6 +308,7 @@ class Talk:
         hooks = (model.south_hooks if self.head.south else model.plain_hooks)(len(self.head.starts))
         self.world = model.World(self.grid, self.head.starts, self.head.clients, self.head.limits, hooks)
         self.rings = model.run(self.grid, self.head.starts, self.head.clients, self.head.limits, hooks, [])
+        self.find_door()
 
     def turn(self):
         told = f"chapter {self.world.number} entries {len(self.world.entries)}"
@@ -294,6 +322,10 @@ class Talk:
         return reply, w.entries[before] if len(w.entries) > before else None
 
     def event(self, mark, event):
+        if event[0] == "post" and event[2][0] == "go" and event[2][2] in self.refused:
+            client = event[1]
+            self.say(mark, [f"post-refused {client} 3 no-room" if client < self.head.clients else f"no-client {client}"])
+            return
         reply, entry = self.reply(event)
         if self.roll and reply in NO_ROOM:
             try:
@@ -347,32 +379,38 @@ def head_of(script):
     return head
 
 
-def talk(text, script, lines, marks=False, roll=False, kept=None):
+def talk(text, script, lines, marks=False, roll=False, kept=None, roomy=False):
     """(output, error text, status)"""
+    output, warning, complaint, status = told_in(text, script, lines, marks, roll, kept, roomy)
+    return output, warning + complaint, status
+
+
+def told_in(text, script, lines, marks, roll, kept, roomy):
+    """(output, the warning that cells are not roomy, what else the error text says, status)"""
     try:
         rows = model.read_map(text)
     except model.MapFault as fault:
-        return b"", fault.text().replace("errands", "fleet") + "\n", 4
+        return b"", "", fault.text().replace("errands", "fleet") + "\n", 4
     try:
         head = head_of(script)
     except model.Stop as stop:
-        return b"", stop.args[1] + "\n", stop.args[0]
-    held = Talk(model.Grid(*rows), head, marks, roll)
+        return b"", "", stop.args[1] + "\n", stop.args[0]
+    held = Talk(model.Grid(*rows), head, marks, roll, roomy)
     if kept is not None:
         try:
             held.resume(*kept)
         except model.Stop as stop:
-            return b"", stop.args[1] + "\n", stop.args[0]
+            return b"", "", stop.args[1] + "\n", stop.args[0]
     try:
         for number, raw in enumerate(model.split_lines(lines, cr=False), 1):
             if not held.line(number, raw):
                 break
     except model.OpenFault as fault:
         code = fault.args[0]
-        return b"".join(held.out), f"fleet: opening {code} {model.OPENING[code]}\n", 5
+        return b"".join(held.out), "", f"fleet: opening {code} {model.OPENING[code]}\n", 5
     if held.limited:
-        return b"".join(held.out), "fleet: limit\n", 8
-    return b"".join(held.out), "", 0
+        return b"".join(held.out), held.warning, "fleet: limit\n", 8
+    return b"".join(held.out), held.warning, "", 0
 
 
 def cases(text, section):
@@ -400,7 +438,8 @@ def tell(name, options, lines):
             kept = "kept.json", int(number), chapter
     if b"cut" in options:
         lines = lines[:-1]
-    out, error, status = talk(text, script, lines, b"marks" in options, b"roll" in options, kept)
+    # the stored run's sink says no warning
+    out, _, error, status = told_in(text, script, lines, b"marks" in options, b"roll" in options, kept, b"roomy" in options)
     told = b"case: " + name + b"\n" + out + f"status {status}\n{error}".encode()
     if b"trials" in options:
         told += b"".join(trial + b": as it should\n" for trial in TRIALS)
@@ -451,7 +490,7 @@ def main(words):
     kept, words = kept_in(words)
     names = [word for word in words if not word.startswith("--")]
     texts = [open(name, "rb").read() for name in names] + [b""]
-    out, error, status = talk(texts[0], texts[1], sys.stdin.buffer.read(), "--marks" in words, "--roll" in words, kept)
+    out, error, status = talk(texts[0], texts[1], sys.stdin.buffer.read(), "--marks" in words, "--roll" in words, kept, "--roomy" in words)
     sys.stdout.buffer.write(out)
     sys.stderr.write(error)
     return status

@@ -79,7 +79,7 @@ class LiveFleet(Closing):
     the robots' cells, in a thread of its own, in which it may call any method. The first call may come before the
     constructor has returned. An exception of it is reported as that of any thread, and the next tick is told all the
     same. While it is slower than the fleet, ticks are left out. A full chapter is followed by the next. With `keep_every_ms` a chapter is written to `traces` at least once in this many
-    milliseconds, 0.001 to 3,600,000, so that a fleet that is killed loses no more than that. The other words are those
+    milliseconds, 0.001 to 3,600,000, so that a fleet that is killed loses no more than that. The other words, as `roomy`, are those
     of `Fleet`, and so are the exceptions. Any thread may call any method.
     """
 
@@ -95,6 +95,7 @@ class LiveFleet(Closing):
         ties: str = "plain",
         traces: Optional[Place] = None,
         resume: bool = False,
+        roomy: bool = False,
         keep_every_ms: Optional[float] = None,
         built: Optional[Place] = None,
         timeout: Optional[float] = None,
@@ -106,6 +107,8 @@ class LiveFleet(Closing):
             words += ["--period", f"{round(period_ms * 1000)}us", "--tickers", str(whole_number("tickers", tickers))]
         if on_tick is not None:
             words.append("--watch")
+        if roomy:
+            words.append("--roomy")
         words += opening.trace_words(told, resume)
         if keep_every_ms is not None:
             if told.traces is None:
@@ -194,7 +197,8 @@ class LiveFleet(Closing):
         """Asks a robot to come to a cell, after the errands that it has. Returns the errand; its verdict is what
         `accepted` of it says.
 
-        Raises Refused with "lane-full", "client-closed", "numbers-spent" or "no-client" if the order was not posted.
+        Raises Refused with "lane-full", "client-closed", "numbers-spent", "no-client" or, of a fleet that is `roomy`, "no-room" if the order was not
+        posted.
         """
         client = whole_number("client", client)
         errand = LiveErrand(self, client, whole_number("robot", robot), whole_number("cell", cell))

@@ -152,6 +152,7 @@ SENTENCES = {
     "withdrawn": "the errand was withdrawn",
     "lane-full": "the client's lane has all the orders that may wait in it",
     "numbers-spent": "the client has sent all the orders that it may send",
+    "no-room": "the cell is not roomy for the fleet's robots",
 }
 
 

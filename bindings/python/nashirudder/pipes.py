@@ -31,6 +31,8 @@ class Fleet(AnyFleet):
     fleet goes on from the last chapter in it, if it has chapters (docs/PROTOCOL.md, "Going on"): the robots stand where
     they were left, with their queues, and numbers go on; `robots`, `clients`, `ties`, `queue` and `life` have to be as
     they were, but for the robots' cells. With `roll`, which is the default, a full chapter is followed by the next.
+    With `roomy` an errand to a cell that is not roomy for the robots is refused, so that none blocks the fleet for ever
+    (docs/GLOSSARY.md, "roomy"): `go` raises Refused with "no-room", and a fleet with such an errand does not go on.
     `built` is the program, or a folder that has it (`nashirudder.finding` says where it is looked for without). No call
     waits longer than `timeout` seconds for the program; without it, as long as it takes.
 
@@ -50,6 +52,7 @@ class Fleet(AnyFleet):
         traces: Optional[Place] = None,
         resume: bool = False,
         roll: bool = True,
+        roomy: bool = False,
         built: Optional[Place] = None,
         timeout: Optional[float] = None,
         **limits: int,
@@ -58,6 +61,8 @@ class Fleet(AnyFleet):
         words = [finding.program(built), "talk", "--marks"]
         if roll:
             words.append("--roll")
+        if roomy:
+            words.append("--roomy")
         words += opening.trace_words(told, resume)
         super().__init__(timeout)
         self._pending: Deque[Asked] = deque()
@@ -122,6 +127,8 @@ class Fleet(AnyFleet):
 
     def _post(self, order: Order) -> None:
         answer = self._program.ask(f"post {order.client} {order._line}", order=order)[0][-1]
+        if answer[0] == "post-refused":
+            raise refusal(answer[-1])
         if answer[0] != "posted":
             raise refusal(answer[0])
 

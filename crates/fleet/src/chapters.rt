@@ -4,7 +4,7 @@ ghost use Rattle.std.specs.Prelude.{None};
 
 use crate::files::{sync_folder, write_synced};
 use crate::streams::Trouble;
-use fleet_lib::{Chapter, ChapterSink, SinkFault, trace_line, write_whole};
+use fleet_lib::{Chapter, ChapterSink, Door, SinkFault, trace_line, unroomy_line, write_whole};
 use std::alloc::{Alloc, AllocError, Global};
 use std::fs::{self, Files};
 use std::io::{self, ErrorKind, Write};
@@ -104,6 +104,15 @@ impl<R: Files + Alloc<A = Global>, E: Write> ChapterSink for TraceFolder<'_, R, 
             "fleet: goes on from chapter {chapter} at tick {tick}\n"
         );
         if let Ok(line) = line {
+            write_whole(&mut self.error, line.as_bytes());
+        }
+    }
+
+    fn opened(&mut self, door: &Door) {
+        if door.roomy || door.unroomy == 0 {
+            return;
+        }
+        if let Ok(line) = unroomy_line(self.rt.alloc(), door) {
             write_whole(&mut self.error, line.as_bytes());
         }
     }

@@ -95,6 +95,7 @@ fn hold_talk<
     let settings = Settings {
         marks: talk.marks,
         roll: talk.roll,
+        roomy: talk.roomy,
     };
     let texts = lent_texts(&map, &script, kept);
     run_talk(rt, texts, settings, &mut ends, error)

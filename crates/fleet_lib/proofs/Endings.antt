@@ -49,7 +49,7 @@ module _ (on : Terms) (k : KeptChapters) where
   -- the same of one whose fleet goes on from a chapter
   pub ends-on : (c : ChapterView Global) (known a b : Option (List ℕ)) {X : Type 0} (r : Result Bool ResumeFault)
       → IfOk r (λ met. IfSome known (λ bytes. (text : List ℕ) × (chapters : List (ChapterView Global)) × IsResumption on c bytes text chapters met × Appends a b text × Adds k.old k.new chapters))
-      → IfErr r (λ f. IsRefusal f → IsResumeFault on.kit on.floor on.head c f)
+      → IfErr r (λ f. IsRefusal f → IsResumeFault on.settings.roomy on.kit on.floor on.head c f)
       → IfErr r (λ f. IsRefusal f → X) → (X → b ≡ a) → (X → k.new ≡ k.old)
       → ((why : TalkFault) → r ≡ Err (resume_fault.Talk why) → IsMidway why → IfSome known (λ bytes. (text : List ℕ) × IsResumptionBegun on c bytes text × Appends a b text))
       → (r ≡ Err (resume_fault.Talk Output) → IfSome known (λ bytes. (text : List ℕ) × IsResumptionBegun on c bytes text × AppendsPrefix a b text))
@@ -59,6 +59,7 @@ module _ (on : Terms) (k : KeptChapters) where
   ends-on c (Some bytes) a b (Err resume_fault.Robots) whole refused same out kept broken cut = (refused tt, out (same tt), kept (same tt))
   ends-on c (Some bytes) a b (Err resume_fault.Clients) whole refused same out kept broken cut = (refused tt, out (same tt), kept (same tt))
   ends-on c (Some bytes) a b (Err (resume_fault.Chapter why)) whole refused same out kept broken cut = (refused tt, out (same tt), kept (same tt))
+  ends-on c (Some bytes) a b (Err (resume_fault.Errand x)) whole refused same out kept broken cut = (refused tt, out (same tt), kept (same tt))
   ends-on c (Some bytes) a b (Err (resume_fault.Talk Input)) whole refused same out kept broken cut = broken Input refl
   ends-on c (Some bytes) a b (Err (resume_fault.Talk Output)) whole refused same out kept broken cut = cut refl
   ends-on c (Some bytes) a b (Err (resume_fault.Talk Sink)) whole refused same out kept broken cut = broken Sink refl

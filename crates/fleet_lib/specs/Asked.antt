@@ -84,6 +84,7 @@ pub record IsTalk (rows : List Row) (talk : TalkJob) : Type 0 where
   pub resume_only : talk.resume_only ≡ has_flag (codes "resume-only") rows
   pub marks : talk.marks ≡ has_flag (codes "marks") rows
   pub roll : talk.roll ≡ has_flag (codes "roll") rows
+  pub roomy : talk.roomy ≡ has_flag (codes "roomy") rows
 
 -- the target of a name: a plan in a form, or a trace
 abbrev pub target_named : Text → Option Target
@@ -130,6 +131,7 @@ pub record IsLive (rows : List Row) (live : LiveJob) : Type 0 where
   pub pipes : or_none (all_of (codes "client") rows) ≡ map (λ s. string_bytes s) live.pipes.items
   pub watch : live.watch ≡ has_flag (codes "watch") rows
   pub service : live.service ≡ has_flag (codes "service") rows
+  pub roomy : live.roomy ≡ has_flag (codes "roomy") rows
 
 -- the table of a name
 abbrev pub table_named : Text → Option Figures

@@ -13,10 +13,10 @@ abbrev pub check_app : App
 check_app = with_rules (new_app (codes "check"))
     (flag_rule (codes "strict") ∷ value_rule (codes "form") ∷ value_rule (codes "goals") ∷ number_rule (codes "agents") ∷ file_rule (codes "MAP") ∷ file_rule (codes "PLAN") ∷ [])
 
--- talk [--marks] [--roll] [--traces DIR] [--resume] [--resume-only] MAP [SCRIPT]
+-- talk [--marks] [--roll] [--roomy] [--traces DIR] [--resume] [--resume-only] MAP [SCRIPT]
 abbrev pub talk_app : App
 talk_app = with_rules (new_app (codes "talk"))
-    (flag_rule (codes "marks") ∷ flag_rule (codes "roll") ∷ value_rule (codes "traces") ∷ flag_rule (codes "resume") ∷ flag_rule (codes "resume-only") ∷ file_rule (codes "MAP") ∷ new_rule (codes "SCRIPT") ∷ [])
+    (flag_rule (codes "marks") ∷ flag_rule (codes "roll") ∷ flag_rule (codes "roomy") ∷ value_rule (codes "traces") ∷ flag_rule (codes "resume") ∷ flag_rule (codes "resume-only") ∷ file_rule (codes "MAP") ∷ new_rule (codes "SCRIPT") ∷ [])
 
 -- convert --to FORM MAP INPUT
 abbrev pub convert_app : App
@@ -26,12 +26,12 @@ convert_app = with_rules (new_app (codes "convert")) (required_value_rule (codes
 abbrev pub explain_app : App
 explain_app = with_rules (new_app (codes "explain")) (flag_rule (codes "head") ∷ file_rule (codes "MAP") ∷ new_rule (codes "INPUT") ∷ [])
 
--- live [--robots CELLS] [--clients N] [--period TIME] [--tickers N] [--client IN,OUT].. [--watch] [--service] [--traces DIR] [--resume]
+-- live [--robots CELLS] [--clients N] [--period TIME] [--tickers N] [--client IN,OUT].. [--watch] [--service] [--roomy] [--traces DIR] [--resume]
 -- [--resume-only] [--keep-every TIME] [--chapter-bytes N] [--metrics FILE] MAP [SCRIPT]
 abbrev pub live_app : App
 live_app = with_rules (new_app (codes "live"))
     (value_rule (codes "robots") ∷ value_rule (codes "clients") ∷ value_rule (codes "period") ∷ value_rule (codes "tickers") ∷ values_rule (codes "client")
-    ∷ flag_rule (codes "watch") ∷ flag_rule (codes "service") ∷ value_rule (codes "traces") ∷ flag_rule (codes "resume") ∷ flag_rule (codes "resume-only")
+    ∷ flag_rule (codes "watch") ∷ flag_rule (codes "service") ∷ flag_rule (codes "roomy") ∷ value_rule (codes "traces") ∷ flag_rule (codes "resume") ∷ flag_rule (codes "resume-only")
     ∷ value_rule (codes "keep-every") ∷ value_rule (codes "chapter-bytes") ∷ value_rule (codes "metrics") ∷ file_rule (codes "MAP") ∷ new_rule (codes "SCRIPT") ∷ [])
 
 -- stats [--json] [--csv TABLE] MAP TRACE..

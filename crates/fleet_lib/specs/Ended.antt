@@ -51,7 +51,7 @@ BreaksOff on c bytes before after why = IsMidway why → (text : List ℕ) × Is
 abbrev pub EndsOn : Terms → ChapterView Global → List ℕ → Option (List ℕ) → Option (List ℕ) → KeptChapters → Result Bool ResumeFault → Type 0
 EndsOn on c bytes before after k (Ok limited) = (text : List ℕ) × (chapters : List (ChapterView Global)) × IsResumption on c bytes text chapters limited × Appends before after text × Adds k.old k.new chapters
 EndsOn on c bytes before after k (Err (resume_fault.Talk why)) = BreaksOff on c bytes before after why
-EndsOn on c bytes before after k (Err why) = IsResumeFault on.kit on.floor on.head c why × (after ≡ before) × (k.new ≡ k.old)
+EndsOn on c bytes before after k (Err why) = IsResumeFault on.settings.roomy on.kit on.floor on.head c why × (after ≡ before) × (k.new ≡ k.old)
 
 -- the end of a conversation, where it may also be that no chapter could be gone on from
 abbrev pub broken_off : Result Bool TalkFault → Result Bool ResumeFault

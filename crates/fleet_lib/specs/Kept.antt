@@ -46,6 +46,8 @@ resume_text (resume_fault.Chapter reopen_fault.Differs) = codes "the header line
 resume_text (resume_fault.Chapter reopen_fault.Spent) = codes "no chapter follows within the limits"
 resume_text (resume_fault.Chapter reopen_fault.Waits) = codes "a robot has waited longer than it may"
 resume_text (resume_fault.Chapter reopen_fault.NoMemory) = codes "out of memory"
+resume_text (resume_fault.Errand x) =
+    codes "an errand of client " ++ (decimal x.client ++ (codes " for robot " ++ (decimal x.robot ++ (codes " goes to cell " ++ (decimal x.cell ++ codes ", which is not roomy")))))
 resume_text (resume_fault.Talk f) = codes "the conversation broke off"
 
 abbrev pub reason_text : Reason → List ℕ

@@ -9,7 +9,7 @@ use crate::said::fail;
 use fleet_explain::{Explanation, explain_trace};
 use fleet_history::Chapter;
 use fleet_reopen::ReopenFault;
-use fleet_talk::ResumeFault;
+use fleet_talk::{ResumeFault, UnroomyErrand};
 use fleet_text::{InputFault, write_whole};
 use fleet_trace::{TraceFault, read_trace};
 use std::alloc::{AllocError, Global};
@@ -62,7 +62,19 @@ impl fmt::Display for ResumeText {
     ghost output = { λ t. Some (resume_text t.0) };
 
     fn fmt<W: fmt::Write>(&self, f: &mut fmt::Formatter<W>) -> fmt::Result {
-        f.write_str(match self.0 {
+        let words = match self.0 {
+            ResumeFault::Errand(
+                UnroomyErrand {
+                    client,
+                    robot,
+                    cell,
+                },
+            ) => {
+                return write!(
+                    f,
+                    "an errand of client {client} for robot {robot} goes to cell {cell}, which is not roomy"
+                );
+            }
             ResumeFault::Robots => "the header lines name another number of robots",
             ResumeFault::Clients => "the header lines name another number of clients",
             ResumeFault::Chapter(ReopenFault::Limits) => "a limit is out of its range",
@@ -75,7 +87,8 @@ impl fmt::Display for ResumeText {
             ResumeFault::Chapter(ReopenFault::Waits) => "a robot has waited longer than it may",
             ResumeFault::Chapter(ReopenFault::NoMemory) => "out of memory",
             ResumeFault::Talk(_) => "the conversation broke off",
-        })
+        };
+        f.write_str(words)
     }
 }
 

@@ -29,7 +29,7 @@ pub use explain::{
 pub use fleet_history::Chapter;
 pub use fleet_live::{LiveEnds, Pipes};
 pub use fleet_plans::{MOST_PLAN_BYTES, TextForm, is_plan};
-pub use fleet_talk::{ChapterSink, Ends, Settings, SinkFault};
+pub use fleet_talk::{ChapterSink, Door, Ends, Settings, SinkFault, unroomy_line};
 pub use fleet_text::{InputFault, read_up_to, trace_line, write_whole};
 pub use judge::{Judgement, answer_judge};
 pub use kept::{KeptFault, KeptText};

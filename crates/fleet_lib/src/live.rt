@@ -184,6 +184,7 @@ fn settings_of(live: &Live) -> Result<LiveSettings, BadWord> {
         chapter_bytes,
         watch: live.watch,
         service: live.service,
+        roomy: live.roomy,
         version: VERSION,
     })
 }

@@ -3,6 +3,7 @@
 use crate::voice::Voice;
 use fleet_book::Order;
 use fleet_office::{Guest, OfficeName};
+use fleet_talk::Door;
 use fleet_text::{no_client_line, post_text};
 use live_parts::{Rights, number_on, post_in};
 use std::alloc::{AllocError, Global};
@@ -17,6 +18,16 @@ pub(crate) struct Clients {
     pub(crate) end: usize,
 }
 
+/// What a conversation has besides its guests.
+#[derive(Drop)]
+pub(crate) struct Own {
+    pub(crate) voice: Arc<Voice>,
+    /// To which cells posts are refused.
+    pub(crate) door: Arc<Door>,
+    /// By client, how many of its orders were taken before the fleet went on.
+    pub(crate) taken: Vec<u64>,
+}
+
 /// A conversation, shared by its reader, its writer and the keeper.
 #[derive(Drop)]
 pub(crate) struct Conversation<N: OfficeName<Global>> {
@@ -25,6 +36,8 @@ pub(crate) struct Conversation<N: OfficeName<Global>> {
     /// Those that it speaks for.
     pub(crate) clients: Clients,
     pub(crate) voice: Arc<Voice>,
+    /// To which cells posts are refused.
+    pub(crate) door: Arc<Door>,
     guests: Mutex<Vec<Guest<N>>>,
     /// By client, how many of its orders were taken before the fleet went on.
     taken: Vec<u64>,
@@ -41,15 +54,16 @@ impl<N: OfficeName<Global>> Conversation<N> {
         place: usize,
         rights: Rights,
         clients: Clients,
-        voice: Arc<Voice>,
         guests: Vec<Guest<N>>,
-        taken: Vec<u64>,
+        own: Own,
     ) -> Conversation<N> {
+        let Own { voice, door, taken } = own;
         Conversation {
             place,
             rights,
             clients,
             voice,
+            door,
             guests: Mutex::new(guests),
             taken,
             granted: Mutex::new(0),

@@ -2,7 +2,8 @@
 
 ghost use Rattle.fleet_office.specs.Views.{AreOn, cores};
 
-use crate::conversation::{Clients, Conversation};
+use crate::conversation::{Clients, Conversation, Own};
+use crate::serving::Site;
 use crate::voice::Voice;
 use fleet_lanes::Client;
 use fleet_office::{Guest, OfficeName, guests_of};
@@ -25,13 +26,16 @@ fn new_conversation<N: OfficeName<Global>>(
     rights: Rights,
     clients: Clients,
     guests: Vec<Guest<N>>,
-    taken: &[u64],
+    site: &Site,
 ) -> Result<Arc<Conversation<N>>, AllocError> {
-    let voice = new_voice(alloc)?;
-    let taken = Vec::from_slice(alloc, taken)?;
+    let own = Own {
+        voice: new_voice(alloc)?,
+        door: Arc::try_clone(&site.door)?,
+        taken: Vec::from_slice(alloc, &site.taken)?,
+    };
     match Arc::new(
         alloc,
-        Conversation::new(place, rights, clients, voice, guests, taken),
+        Conversation::new(place, rights, clients, guests, own),
     ) {
         Ok(one) => Ok(one),
         Err(_) => Err(AllocError),
@@ -42,7 +46,7 @@ fn new_conversation<N: OfficeName<Global>>(
 fn own_conversation<N: OfficeName<Global>>(
     alloc: Global,
     guest: Guest<N>,
-    taken: &[u64],
+    site: &Site,
 ) -> Result<Arc<Conversation<N>>, AllocError> {
     let first = guest.number() as usize;
     let end = first.saturating_add(1);
@@ -52,7 +56,7 @@ fn own_conversation<N: OfficeName<Global>>(
         is_operator: false,
         ticks: false,
     };
-    new_conversation(alloc, end, rights, Clients { first, end }, guests, taken)
+    new_conversation(alloc, end, rights, Clients { first, end }, guests, site)
 }
 
 /// The conversations: the first is that of the clients that have no pipes, the others are those of clients 0, 1, ..
@@ -61,7 +65,7 @@ pub(crate) fn conversations_of<N: OfficeName<Global>>(
     clients: Vec<Client>,
     pipes: usize,
     paced: bool,
-    taken: &[u64],
+    site: &Site,
 ) -> Result<Vec<Arc<Conversation<N>>>, AllocError>
     requires { AreOn N.rings (cores clients.items) }
 {
@@ -76,7 +80,7 @@ pub(crate) fn conversations_of<N: OfficeName<Global>>(
     let mut own = Vec::new(alloc);
     for guest in guests {
         if (guest.number() as usize) < pipes {
-            push_one(&mut own, own_conversation(alloc, guest, taken)?)?;
+            push_one(&mut own, own_conversation(alloc, guest, site)?)?;
         } else if rest.push(guest).is_err() {
             return Err(AllocError);
         }
@@ -86,7 +90,7 @@ pub(crate) fn conversations_of<N: OfficeName<Global>>(
         ticks: !paced,
     };
     let mut all = Vec::new(alloc);
-    let first = new_conversation(alloc, 0, rights, clients, rest, taken)?;
+    let first = new_conversation(alloc, 0, rights, clients, rest, site)?;
     push_one(&mut all, first)?;
     for one in own {
         push_one(&mut all, one)?;

@@ -5,8 +5,8 @@ use crate::conversation::Conversation;
 use crate::inbox::Inbox;
 use fleet_book::Order;
 use fleet_office::OfficeName;
-use fleet_talk::{Line, LineFault, MOST_LINE, line_of, read_line};
-use fleet_text::{bad_line, no_client_line, watch_line};
+use fleet_talk::{Line, LineFault, MOST_LINE, line_let_in, read_line};
+use fleet_text::{bad_line, no_client_line, no_room_line, watch_line};
 use live_parts::{Demand, Stop, Wanted, demand_of};
 use std::alloc::{AllocError, Global};
 use std::io::{BufReader, Read};
@@ -94,6 +94,22 @@ impl<'a, N: OfficeName<Global>> Hearing<'a, N> {
         }
     }
 
+    /// Refuses a client's post, if the conversation speaks for it.
+    fn refuse<R: Wait>(
+        &self,
+        rt: &R,
+        alloc: Global,
+        mark: Option<&[u8]>,
+        client: u32,
+    ) -> Result<(), AllocError> {
+        let text = if self.here.speaks_for(rt, client) {
+            no_room_line(alloc, client)?
+        } else {
+            no_client_line(alloc, client)?
+        };
+        self.here.voice.say(rt, mark, text.as_str())
+    }
+
     /// Asks for a client's open errands, if the conversation speaks for it.
     fn list<R: Wait>(
         &mut self,
@@ -115,6 +131,7 @@ impl<'a, N: OfficeName<Global>> Hearing<'a, N> {
             Demand::Nothing => {}
             Demand::Quit => return Ok(true),
             Demand::Post(client, order) => self.post(rt, alloc, line.mark, client, order)?,
+            Demand::NoRoom(client) => self.refuse(rt, alloc, line.mark, client)?,
             Demand::Open(client) => self.list(rt, alloc, line.mark, client)?,
             Demand::Ask(wanted) => self.ask(rt, alloc, line.mark, wanted)?,
             Demand::Watch(on) => {
@@ -141,7 +158,8 @@ impl<'a, N: OfficeName<Global>> Hearing<'a, N> {
             if !next_line(input, &mut bytes)? {
                 return Ok(());
             }
-            if self.obey(rt, alloc, line_of(number, &bytes))? {
+            let line = line_let_in(&self.here.door.refused, number, &bytes);
+            if self.obey(rt, alloc, line)? {
                 return Ok(());
             }
             self.here.voice.wait_for_room(rt);
@@ -164,7 +182,8 @@ impl<'a, N: OfficeName<Global>> Hearing<'a, N> {
                 Ok(heard) => heard,
                 Err(stop) => return Ok(stop),
             };
-            if self.obey(rt, alloc, line_of(heard.number, &heard.bytes))? {
+            let line = line_let_in(&self.here.door.refused, heard.number, &heard.bytes);
+            if self.obey(rt, alloc, line)? {
                 return Ok(Stop::Quit);
             }
             self.here.voice.wait_for_room(rt);

@@ -5,6 +5,7 @@
 mod bell;
 mod conversation;
 mod conversations;
+mod doors;
 mod ending;
 mod granting;
 mod hearing;
@@ -12,6 +13,7 @@ mod inbox;
 mod keeper;
 mod listening;
 mod live;
+mod opening;
 mod pace;
 mod resuming;
 mod serving;

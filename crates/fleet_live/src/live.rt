@@ -9,16 +9,15 @@ ghost use Rattle.fleet_talk.specs.Heading.{drafted};
 ghost use Rattle.fleet_live.specs.Ended.{IsEnded, IsRefusedHead, ended_by, unopened};
 
 use crate::conversation::Conversation;
+use crate::doors::{door_of, robots_in};
 use crate::ending::finish;
-use crate::serving::{Left, Site, counted, serve};
+use crate::opening::Opening;
+use crate::serving::{Left, Site, serve};
 use crate::stage::Stage;
-use fleet_book::Limits;
 use fleet_core::OpenFault;
-use fleet_grid::Grid;
-use fleet_hooks::Hooks;
 use fleet_lanes::Client;
 use fleet_office::{Desk, Office, OfficeName, Ticker};
-use fleet_talk::{ChapterSink, Ground, TALK_LIMITS, TalkFault};
+use fleet_talk::{ChapterSink, Door, Ground, TALK_LIMITS, TalkFault};
 use live_parts::{LiveEnds, LiveSettings, Stop};
 use std::alloc::{Alloc, AllocError, Global};
 use std::io::{Read, Write};
@@ -39,47 +38,6 @@ fn unopened(fault: OpenFault) -> TalkFault
     match fault {
         OpenFault::NoMemory => TalkFault::NoMemory,
         named => TalkFault::Opening(named),
-    }
-}
-
-/// What an office is opened with.
-#[derive(Drop)]
-struct Opening {
-    desk: Desk,
-    limits: Limits,
-    grid: Grid,
-    starts: Vec<u32>,
-    hooks: Hooks,
-}
-
-impl Opening {
-    /// An opening of these parts.
-    fn of(desk: Desk, limits: Limits, grid: Grid, starts: Vec<u32>, hooks: Hooks) -> Opening
-        requires { 0 ≤ vec_len hooks.ties }
-        ensures desk { result.desk ≡ desk }
-        ensures limits { result.limits ≡ limits }
-        ensures grid { result.grid ≡ grid }
-        ensures starts { result.starts.items ≡ starts.items }
-        ensures hooks { laws_of result.hooks ≡ laws_of hooks }
-    {
-        Opening {
-            desk,
-            limits,
-            grid,
-            starts,
-            hooks,
-        }
-    }
-
-    /// The site of the fleet.
-    fn site(&self, alloc: Global, settings: LiveSettings) -> Site {
-        Site {
-            settings,
-            robots: counted(self.starts.len()),
-            cells: self.grid.cell_count(),
-            chapter: self.limits.chapter,
-            taken: Vec::new(alloc),
-        }
     }
 }
 
@@ -182,6 +140,8 @@ pub(crate) fn keep_office<
     requires on { AreOn N.rings (cores clients.items) }
     ensures opened { IfErr result IsEnded }
 {
+    let mut ends = ends;
+    ends.sink.opened(&site.door);
     match serve(rt, &office, clients, ticker, site, ends) {
         Ok(left) => end_fleet(rt, office, left),
         Err(AllocError) => {
@@ -205,6 +165,7 @@ fn keep_fleet<
     rt: &R,
     opening: Opening,
     settings: LiveSettings,
+    door: Arc<Door>,
     ends: LiveEnds<I, W, P, Q, E, S>,
 ) -> Result<bool, TalkFault>
     requires named { IsNamed opening.desk N.name N.parts N.rings }
@@ -212,7 +173,7 @@ fn keep_fleet<
     ensures refused { (why : OpenFault) → IsNamedFault why →
         ((result ≡ Err (TalkFault.Opening why)) ↔ IsRefused opening.grid opening.starts.items (length opening.desk.clients) opening.desk.limits (laws_of opening.hooks) why) }
 {
-    let site = opening.site(rt.alloc(), settings);
+    let site = opening.site(rt.alloc(), settings, door);
     let Opening {
         desk,
         limits: _,
@@ -225,6 +186,49 @@ fn keep_fleet<
         Err(fault) => return Err(unopened(fault)),
     };
     keep_office(rt, office, clients, ticker, site, ends)
+}
+
+/// Keeps the fleet that the head names, with this door.
+fn keep_ground<
+    R: Alloc<A = Global> + Clock + Threads + Sync + Wait + Copy + Send + Drop + 'static,
+    I: Read + Send + Drop + 'static,
+    W: Write + Send + Drop + 'static,
+    P: Read + Send + Drop + 'static,
+    Q: Write + Send + Drop + 'static,
+    E: Write + Send + Drop + 'static,
+    S: ChapterSink + Send + Drop,
+>(
+    rt: &R,
+    ground: Ground,
+    settings: LiveSettings,
+    door: Arc<Door>,
+    ends: LiveEnds<I, W, P, Q, E, S>,
+) -> Result<bool, TalkFault>
+    // Of each call: only a call with a condition may hand on closures.
+    requires { 0 ≤ vec_len ground.kit.plain.ties }
+    ensures refused { (starts : List ℕ) → (drafted ground.head).starts ≡ Some starts → (why : OpenFault) → IsNamedFault why →
+        result ≡ Err (TalkFault.Opening why) → IsRefusedHead (kit_laws ground.kit) ground.grid (drafted ground.head) starts why }
+    ensures named { (starts : List ℕ) → (drafted ground.head).starts ≡ Some starts → (why : OpenFault) →
+        IsRefusedHead (kit_laws ground.kit) ground.grid (drafted ground.head) starts why → (result ≡ Err (TalkFault.Opening why)) ⊎ (result ≡ Err TalkFault.NoMemory) }
+{
+    let Ground { grid, kit, head } = ground;
+    let starts = head.starts.unwrap_or(Vec::new(rt.alloc()));
+    let hooks = kit.choose(head.south.unwrap_or(false)).cut(starts.len());
+    let limits = head.limits.limits_over(TALK_LIMITS);
+    match Desk::new(rt.alloc(), head.clients.unwrap_or(1), limits) {
+        Ok(desk) => {
+            let opening = Opening::of(desk, limits, grid, starts, hooks);
+            keep_fleet::<Brand, R, I, W, P, Q, E, S>(rt, opening, settings, door, ends)
+        }
+        Err(OpenFault::Limits) => {
+            mem::drop(hooks);
+            Err(TalkFault::Opening(OpenFault::Limits))
+        }
+        Err(_) => {
+            mem::drop(hooks);
+            Err(TalkFault::NoMemory)
+        }
+    }
 }
 
 /// Keeps a fleet in real time: opens an office with the head's robots and clients, lets each conversation post, look
@@ -254,21 +258,15 @@ pub fn keep_live<
     ensures named { (starts : List ℕ) → (drafted ground.head).starts ≡ Some starts → (why : OpenFault) →
         IsRefusedHead (kit_laws ground.kit) ground.grid (drafted ground.head) starts why → (result ≡ Err (TalkFault.Opening why)) ⊎ (result ≡ Err TalkFault.NoMemory) }
 {
-    let Ground { grid, kit, head } = ground;
-    let starts = head.starts.unwrap_or(Vec::new(rt.alloc()));
-    let hooks = kit.choose(head.south.unwrap_or(false)).cut(starts.len());
-    let limits = head.limits.limits_over(TALK_LIMITS);
-    match Desk::new(rt.alloc(), head.clients.unwrap_or(1), limits) {
-        Ok(desk) => {
-            let opening = Opening::of(desk, limits, grid, starts, hooks);
-            keep_fleet::<Brand, R, I, W, P, Q, E, S>(rt, opening, settings, ends)
-        }
-        Err(OpenFault::Limits) => {
-            mem::drop(hooks);
-            Err(TalkFault::Opening(OpenFault::Limits))
-        }
-        Err(_) => {
-            mem::drop(hooks);
+    match door_of(
+        rt.alloc(),
+        settings.roomy,
+        &ground.grid,
+        robots_in(&ground.head),
+    ) {
+        Ok(door) => keep_ground(rt, ground, settings, door, ends),
+        Err(AllocError) => {
+            mem::drop(ground.kit);
             Err(TalkFault::NoMemory)
         }
     }

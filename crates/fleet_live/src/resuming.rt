@@ -10,12 +10,15 @@ ghost use Rattle.fleet_talk.specs.Heading.{drafted};
 ghost use Rattle.fleet_talk.specs.Resumed.{IsRefusal, IsResumeFault, MayResume, world_after};
 ghost use Rattle.fleet_live.specs.Ended.{IsEnded};
 
+use crate::doors::shared_door;
 use crate::live::keep_office;
-use crate::serving::{Site, counted};
+use crate::serving::Site;
 use fleet_core::World;
 use fleet_history::Chapter;
 use fleet_office::{Desk, Office, OfficeName};
-use fleet_talk::{ChapterSink, Ground, ResumeFault, TalkFault, world_after};
+use fleet_talk::{
+    ChapterSink, Door, Ground, ResumeFault, Settings, TalkFault, counted, world_with_door,
+};
 use live_parts::{LiveEnds, LiveSettings, taken_before};
 use std::alloc::{Alloc, AllocError, Global};
 use std::io::{Read, Write};
@@ -30,6 +33,7 @@ fn site_of(
     world: &World,
     cells: u32,
     settings: LiveSettings,
+    door: Door,
 ) -> Result<Site, AllocError>
     ensures chapter { IfOk result (λ site. site.chapter ≡ world.now.core.limits.chapter) }
     ensures taken { IfOk result (λ site. site.taken.items ≡ map (λ c. c.taken) world.now.core.history.opening.clients) }
@@ -44,18 +48,29 @@ fn site_of(
         cells,
         chapter,
         taken,
+        door: shared_door(alloc, door)?,
     })
 }
 
-/// The world that goes on from a chapter. The chapter is dropped.
-fn world_on(alloc: Global, ground: Ground, chapter: Chapter) -> Result<World, ResumeFault>
+/// The world that goes on from a chapter, and its door. The chapter is dropped.
+fn world_on(
+    alloc: Global,
+    ground: Ground,
+    chapter: Chapter,
+    roomy: bool,
+) -> Result<(World, Door), ResumeFault>
     // Of each call: only a call with a condition may hand on closures that another crate hands out.
     requires { 0 ≤ vec_len ground.kit.plain.ties }
-    ensures ok { IfOk result (λ w. w.core ≡ world_after (kit_laws ground.kit) ground.grid (drafted ground.head) (chapter_shown chapter)) }
+    ensures ok { IfOk result (λ r. r.0.core ≡ world_after (kit_laws ground.kit) ground.grid (drafted ground.head) (chapter_shown chapter)) }
     ensures may { OnOk result (MayResume (kit_laws ground.kit) ground.grid (drafted ground.head) (chapter_shown chapter)) }
-    ensures fault { IfErr result (λ fault. IsResumeFault (kit_laws ground.kit) ground.grid (drafted ground.head) (chapter_shown chapter) fault) }
+    ensures fault { IfErr result (λ fault. IsResumeFault roomy (kit_laws ground.kit) ground.grid (drafted ground.head) (chapter_shown chapter) fault) }
 {
-    world_after(alloc, ground, &chapter)
+    let settings = Settings {
+        marks: false,
+        roll: true,
+        roomy,
+    };
+    world_with_door(alloc, ground, &chapter, settings)
 }
 
 /// New lanes for the clients of a world.
@@ -107,21 +122,22 @@ fn ready(
     world: &World,
     cells: u32,
     settings: LiveSettings,
+    door: Door,
 ) -> Result<(Desk, Site), AllocError>
     ensures clients { IfOk result (λ r. length r.0.clients ≡ clients world.now.core.history) }
     ensures limits { IfOk result (λ r. r.0.limits ≡ world.now.core.limits) }
     ensures chapter { IfOk result (λ r. r.1.chapter ≡ world.now.core.limits.chapter) }
     ensures taken { IfOk result (λ r. r.1.taken.items ≡ map (λ c. c.taken) world.now.core.history.opening.clients) }
 {
-    let site = site_of(alloc, world, cells, settings)?;
+    let site = site_of(alloc, world, cells, settings, door)?;
     let desk = desk_for(alloc, world)?;
     Ok((desk, site))
 }
 
-/// Keeps a fleet in real time that goes on from a chapter: its world is that of `world_after`, and its orders, errands,
+/// Keeps a fleet in real time that goes on from a chapter: its world is that of `world_with_door`, and its orders, errands,
 /// notices and ticks are numbered on. All else is as of `keep_live`. Returns whether a limit was met.
 ///
-/// Refused as `world_after` is, before a line is read; out of memory may come at any point.
+/// Refused as `world_with_door` is, before a line is read; out of memory may come at any point.
 pub fn resume_live<
     R: Alloc<A = Global> + Clock + Threads + Sync + Wait + Copy + Send + Drop + 'static,
     I: Read + Send + Drop + 'static,
@@ -142,15 +158,15 @@ pub fn resume_live<
     // A fleet goes on from the chapter.
     ensures may { OnOk result (MayResume (kit_laws ground.kit) ground.grid (drafted ground.head) (chapter_shown chapter)) }
     // None does, for this reason.
-    ensures refused { IfErr result (λ fault. IsRefusal fault → IsResumeFault (kit_laws ground.kit) ground.grid (drafted ground.head) (chapter_shown chapter) fault) }
+    ensures refused { IfErr result (λ fault. IsRefusal fault → IsResumeFault settings.roomy (kit_laws ground.kit) ground.grid (drafted ground.head) (chapter_shown chapter) fault) }
 {
     let (cells, number) = (ground.grid.cell_count(), chapter.number);
     let mut ends = ends;
-    let world = match world_on(rt.alloc(), ground, chapter) {
-        Ok(world) => world,
+    let (world, door) = match world_on(rt.alloc(), ground, chapter, settings.roomy) {
+        Ok(opened) => opened,
         Err(fault) => return Err(fault),
     };
-    match ready(rt.alloc(), &world, cells, settings) {
+    match ready(rt.alloc(), &world, cells, settings, door) {
         Ok((desk, site)) => {
             ends.sink.goes_on(number, world.clock());
             match keep_world::<Brand, R, I, W, P, Q, E, S>(rt, desk, world, site, ends) {

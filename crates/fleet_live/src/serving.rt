@@ -14,7 +14,7 @@ use crate::threads::{
 use crate::tickers::work_all;
 use fleet_lanes::Client;
 use fleet_office::{Office, OfficeName, Ticker};
-use fleet_talk::ChapterSink;
+use fleet_talk::{ChapterSink, Door, counted};
 use live_parts::{Archive, ChapterSize, Due, LiveEnds, LiveSettings, Pipes, Stop};
 use std::alloc::{Alloc, AllocError, Global};
 use std::io::{Read, Write};
@@ -55,6 +55,7 @@ pub(crate) struct Site {
     pub(crate) chapter: u32,
     /// By client, how many of its orders were taken before the fleet went on; none where it begins anew.
     pub(crate) taken: Vec<u64>,
+    pub(crate) door: Arc<Door>,
 }
 
 /// How many bytes of fields are kept on a map of this many cells, each of which takes a byte of a field.
@@ -75,13 +76,6 @@ fn searches(settings: &LiveSettings, cells: u32) -> bool
     ensures { IsTrue result ↔ (IsSome settings.now.period × (65536 ≤ cells)) }
 {
     settings.period.is_some() && cells >= LARGE
-}
-
-/// A number of robots or clients: there are no more than 64,512 of them.
-pub(crate) fn counted(number: usize) -> u32
-    ensures { result ≡ min number 4294967295 }
-{
-    u32::try_from(number).unwrap_or(u32::MAX)
 }
 
 /// What the first ticker begins with, for this many clients and open errands.
@@ -118,7 +112,7 @@ fn stage_of<N: OfficeName<Global>, R: Alloc<A = Global> + Clock, S: ChapterSink 
     let settings = &site.settings;
     let paced = settings.period.is_some();
     let round = round_of(rt, site, clients.len(), open)?;
-    let conversations = conversations_of(alloc, clients, pipes, paced, &site.taken)?;
+    let conversations = conversations_of(alloc, clients, pipes, paced, site)?;
     let bell = new_bell(alloc)?;
     let counts = new_voice(alloc)?;
     Ok(Stage {

@@ -18,7 +18,8 @@ use Rattle.fleet_talk.specs.Act.{acts_from}
 use Rattle.fleet_talk.specs.Acts.{Talks}
 use Rattle.fleet_talk.specs.Broken.{IsMidway, SaysUntil}
 use Rattle.fleet_talk.specs.Chapters.{Adds, ChapterView, KeepsAll, KeepsLast, KeepsTurned}
-use Rattle.fleet_talk.specs.Conversation.{Terms, KeptChapters, IsConversation, unopened, talked, IsBegun, in_head, in_talk, IsRefusedHead, MayOpen, ComesTo, head_in, opened, acts_of, clients_in, limits_in, laws_in}
+use Rattle.fleet_talk.specs.Conversation.{Terms, KeptChapters, IsConversation, Refuses, unopened, talked, IsBegun, in_head, in_talk, IsRefusedHead, MayOpen, ComesTo, head_in, opened, acts_of, clients_in, limits_in, laws_in}
+use Rattle.fleet_talk.specs.Door.{AreRefused}
 use Rattle.fleet_talk.specs.Ending.{Keeps, Finishes, written, unwritten}
 use Rattle.fleet_talk.specs.Fleet.{Fleet}
 use Rattle.fleet_talk.specs.Heard.{Opening, Head, all_of, heard_lines}
@@ -53,7 +54,7 @@ same_err f g h = cc
 
 begun : (on : Terms) (bytes text : List ℕ) (chapters : List (ChapterView Global)) (met : Bool) → IsConversation on bytes text chapters met → IsBegun on bytes text
 begun on bytes text chapters met (unopened none is kept unmet) = in_head (head_in on bytes).said [] (sym (append-nil (head_in on bytes).said)) is
-begun on bytes text chapters met (talked o at may answers last talks is kept limited) = in_talk o at may (acts_of on o) [] (sym (append-nil (acts_of on o))) answers last talks is
+begun on bytes text chapters met (talked o at may cells refuses answers last talks is kept limited) = in_talk o at may cells refuses (acts_of on cells o) [] (sym (append-nil (acts_of on cells o))) answers last talks is
 
 -- ---- the clauses of a conversation
 
@@ -167,27 +168,28 @@ come-refused on k (Some xs) left a b e line first o p f (rest, left_is, starts, 
     by why.Hooks r = (all_of said, record { opening = _; at = ap (λ (x : Head). x.opening) is; refused = r tt; is = told }, says)
 
 -- what the open fleet came to
-record Talked (on : Terms) (bytes : List ℕ) (o : Opening) (a b c : Option (List ℕ)) (w p q : List ℕ) : Type 0 where
+record Talked (on : Terms) (bytes : List ℕ) (o : Opening) (cells : List Bool) (a b c : Option (List ℕ)) (w p q : List ℕ) : Type 0 where
   at : (head_in on bytes).opening ≡ Some o
   may : MayOpen on o
+  refuses : Refuses on o cells
   says : Says a b w p (all_of (head_in on bytes).said)
 
 -- all that was asked of it was said, and it ended so
-abbrev SaidAll : Terms → Opening → Fleet Global → Option (List ℕ) → Option (List ℕ) → List ℕ → List ℕ → Type 0
-SaidAll on o last b c p q = (text : List ℕ) × Talks on.settings.roll (opened on o) (acts_of on o) text last × Says b c p q text
+abbrev SaidAll : Terms → List Bool → Opening → Fleet Global → Option (List ℕ) → Option (List ℕ) → List ℕ → List ℕ → Type 0
+SaidAll on cells o last b c p q = (text : List ℕ) × Talks on.settings.roll (opened on o) (acts_of on cells o) text last × Says b c p q text
 
-come_all : (on : Terms) (k : KeptChapters) (bytes : List ℕ) (o : Opening) (last : Fleet Global) (a b c : Option (List ℕ)) (w p q : List ℕ) → Talked on bytes o a b c w p q → SaidAll on o last b c p q
+come_all : (on : Terms) (k : KeptChapters) (bytes : List ℕ) (o : Opening) (cells : List Bool) (last : Fleet Global) (a b c : Option (List ℕ)) (w p q : List ℕ) → Talked on bytes o cells a b c w p q → SaidAll on cells o last b c p q
     → KeepsAll k.old k.new (opened on o).talk last.talk → (met : Bool) → met ≡ last.met → ComesTo on bytes a c w q k (Ok met)
-come_all on k bytes o last a b c w p q t (text, talks, says) (chapters, are, kept) met is =
-    (all_of (head_in on bytes).said ++ text, chapters, talked o t.at t.may text last talks refl are is, says-then a b c w p q (all_of (head_in on bytes).said) text t.says says, kept)
+come_all on k bytes o cells last a b c w p q t (text, talks, says) (chapters, are, kept) met is =
+    (all_of (head_in on bytes).said ++ text, chapters, talked o t.at t.may cells t.refuses text last talks refl are is, says-then a b c w p q (all_of (head_in on bytes).said) text t.says says, kept)
 
 -- the last chapter was not kept
-come_unkept : (on : Terms) (k : KeptChapters) (bytes : List ℕ) (o : Opening) (last : Fleet Global) (a b c : Option (List ℕ)) (w p q : List ℕ) (f : TalkFault) → Talked on bytes o a b c w p q → SaidAll on o last b c p q
+come_unkept : (on : Terms) (k : KeptChapters) (bytes : List ℕ) (o : Opening) (cells : List Bool) (last : Fleet Global) (a b c : Option (List ℕ)) (w p q : List ℕ) (f : TalkFault) → Talked on bytes o cells a b c w p q → SaidAll on cells o last b c p q
     → IsMidway f → ComesTo on bytes a c w q k (Err f)
-come_unkept on k bytes o last a b c w p q f t (answers, talks, told) mid = by f mid
+come_unkept on k bytes o cells last a b c w p q f t (answers, talks, told) mid = by f mid
   where
     is : IsBegun on bytes (all_of (head_in on bytes).said ++ answers)
-    is = in_talk o t.at t.may (acts_of on o) [] (sym (append-nil (acts_of on o))) answers last talks refl
+    is = in_talk o t.at t.may cells t.refuses (acts_of on cells o) [] (sym (append-nil (acts_of on cells o))) answers last talks refl
 
     says : Says a c w q (all_of (head_in on bytes).said ++ answers)
     says = says-then a b c w p q (all_of (head_in on bytes).said) answers t.says told
@@ -199,15 +201,15 @@ come_unkept on k bytes o last a b c w p q f t (answers, talks, told) mid = by f 
     by Output mid = absurd mid
     by (Unopened f) mid = absurd mid
 
-come_until : (on : Terms) (k : KeptChapters) (bytes : List ℕ) (o : Opening) (a b c : Option (List ℕ)) (w p q : List ℕ) (f : TalkFault) → Talked on bytes o a b c w p q
-    → TalksUntil f on.settings.roll (opened {A = Global} on o) (acts_of on o) b c p q → ComesTo on bytes a c w q k (Err f)
-come_until on k bytes o a b c w p q f t u = by f (until-then f a b c w p q (all_of (head_in on bytes).said) u.text t.says u.says)
+come_until : (on : Terms) (k : KeptChapters) (bytes : List ℕ) (o : Opening) (cells : List Bool) (a b c : Option (List ℕ)) (w p q : List ℕ) (f : TalkFault) → Talked on bytes o cells a b c w p q
+    → TalksUntil f on.settings.roll (opened {A = Global} on o) (acts_of on cells o) b c p q → ComesTo on bytes a c w q k (Err f)
+come_until on k bytes o cells a b c w p q f t u = by f (until-then f a b c w p q (all_of (head_in on bytes).said) u.text t.says u.says)
   where
     text : List ℕ
     text = all_of (head_in on bytes).said ++ u.text
 
     is : IsBegun on bytes (all_of (head_in on bytes).said ++ u.text)
-    is = in_talk o t.at t.may u.done u.left u.parts u.text u.last u.talks refl
+    is = in_talk o t.at t.may cells t.refuses u.done u.left u.parts u.text u.last u.talks refl
 
     by : (f : TalkFault) → SaysUntil f a c w q (all_of (head_in on bytes).said ++ u.text) → ComesTo on bytes a c w q k (Err f)
     by Input s = (all_of (head_in on bytes).said ++ u.text, is, s)
@@ -217,52 +219,54 @@ come_until on k bytes o a b c w p q f t u = by f (until-then f a b c w p q (all_
     by (Unopened f) s = absurd s
 
 -- the same of the open fleet, in the words of the head
-all_said : (on settings : Settings) (rest : List ℕ) (first : ℕ) (line : List ℕ) (b c : Option (List ℕ)) (p q : List ℕ) (left : Option (List ℕ)) (s t last : Fleet Global) → left ≡ Some rest → settings ≡ on → s ≡ t
-    → IfSome left (λ xs. (text : List ℕ) × Talks settings.roll s (acts_from settings first (line ∷ heard_lines xs)) text last × Says b c p q text)
-    → (text : List ℕ) × Talks on.roll t (acts_from on first (line ∷ heard_lines rest)) text last × Says b c p q text
-all_said on settings rest first line b c p q left s t last left_is same is h =
-    let (text, talks, says) = subst (λ (l : Option (List ℕ)). IfSome l (λ xs. (text : List ℕ) × Talks settings.roll s (acts_from settings first (line ∷ heard_lines xs)) text last × Says b c p q text)) left_is h in
-    (text, subst (λ (x : Fleet Global). Talks on.roll x (acts_from on first (line ∷ heard_lines rest)) text last) is (subst (λ (st : Settings). Talks st.roll s (acts_from st first (line ∷ heard_lines rest)) text last) same talks), says)
+all_said : (on settings : Settings) (cells : List Bool) (rest : List ℕ) (first : ℕ) (line : List ℕ) (b c : Option (List ℕ)) (p q : List ℕ) (left : Option (List ℕ)) (s t last : Fleet Global) → left ≡ Some rest → settings ≡ on → s ≡ t
+    → IfSome left (λ xs. (text : List ℕ) × Talks settings.roll s (acts_from settings cells first (line ∷ heard_lines xs)) text last × Says b c p q text)
+    → (text : List ℕ) × Talks on.roll t (acts_from on cells first (line ∷ heard_lines rest)) text last × Says b c p q text
+all_said on settings cells rest first line b c p q left s t last left_is same is h =
+    let (text, talks, says) = subst (λ (l : Option (List ℕ)). IfSome l (λ xs. (text : List ℕ) × Talks settings.roll s (acts_from settings cells first (line ∷ heard_lines xs)) text last × Says b c p q text)) left_is h in
+    (text, subst (λ (x : Fleet Global). Talks on.roll x (acts_from on cells first (line ∷ heard_lines rest)) text last) is (subst (λ (st : Settings). Talks st.roll s (acts_from st cells first (line ∷ heard_lines rest)) text last) same talks), says)
 
-until_said : (on settings : Settings) (rest : List ℕ) (first : ℕ) (line : List ℕ) (b c : Option (List ℕ)) (p q : List ℕ) (left : Option (List ℕ)) (s t : Fleet Global) (f : TalkFault) → left ≡ Some rest → settings ≡ on → s ≡ t
-    → IfSome left (λ xs. TalksUntil f settings.roll s (acts_from settings first (line ∷ heard_lines xs)) b c p q) → TalksUntil f on.roll t (acts_from on first (line ∷ heard_lines rest)) b c p q
-until_said on settings rest first line b c p q left s t f left_is same is h =
-    let u = subst (λ (l : Option (List ℕ)). IfSome l (λ xs. TalksUntil f settings.roll s (acts_from settings first (line ∷ heard_lines xs)) b c p q)) left_is h in
-    subst (λ (x : Fleet Global). TalksUntil f on.roll x (acts_from on first (line ∷ heard_lines rest)) b c p q) is (subst (λ (st : Settings). TalksUntil f st.roll s (acts_from st first (line ∷ heard_lines rest)) b c p q) same u)
+until_said : (on settings : Settings) (cells : List Bool) (rest : List ℕ) (first : ℕ) (line : List ℕ) (b c : Option (List ℕ)) (p q : List ℕ) (left : Option (List ℕ)) (s t : Fleet Global) (f : TalkFault) → left ≡ Some rest → settings ≡ on → s ≡ t
+    → IfSome left (λ xs. TalksUntil f settings.roll s (acts_from settings cells first (line ∷ heard_lines xs)) b c p q) → TalksUntil f on.roll t (acts_from on cells first (line ∷ heard_lines rest)) b c p q
+until_said on settings cells rest first line b c p q left s t f left_is same is h =
+    let u = subst (λ (l : Option (List ℕ)). IfSome l (λ xs. TalksUntil f settings.roll s (acts_from settings cells first (line ∷ heard_lines xs)) b c p q)) left_is h in
+    subst (λ (x : Fleet Global). TalksUntil f on.roll x (acts_from on cells first (line ∷ heard_lines rest)) b c p q) is (subst (λ (st : Settings). TalksUntil f st.roll s (acts_from st cells first (line ∷ heard_lines rest)) b c p q) same u)
 
 -- the fleet was opened, the lines from then on were answered, and the chapters were kept
-pub come-talk : (on : Terms) (before mid after : Option (List (ChapterView Global))) (known left a b c : Option (List ℕ)) (e : Draft) (line : List ℕ) (first : ℕ) (w p q : List ℕ) (settings : Settings) (s last : Fleet Global)
+pub come-talk : (on : Terms) (before mid after : Option (List (ChapterView Global))) (known left a b c : Option (List ℕ)) (e : Draft) (line : List ℕ) (first : ℕ) (w p q : List ℕ) (settings : Settings) (cells : List Bool) (s last : Fleet Global)
     (ended : Result (Unit {0}) TalkFault) (result : Result Bool TalkFault)
     → Opens on known left e line first a b w p → settings ≡ on.settings
     → ((starts : List ℕ) → e.starts ≡ Some starts → CanOpen on.floor starts (clients_in e) (limits_in e) (laws_in on.kit e starts))
     → ((starts : List ℕ) → e.starts ≡ Some starts → AreOrderly (laws_in on.kit e starts))
+    → ((starts : List ℕ) → e.starts ≡ Some starts → AreRefused on.settings.roomy on.floor (length starts) cells)
     → ((starts : List ℕ) → e.starts ≡ Some starts → s ≡ opened on (record { starts = starts; head = e; number = first; lines = [] }))
-    → OnOk ended (IfSome left (λ xs. (text : List ℕ) × Talks settings.roll s (acts_from settings first (line ∷ heard_lines xs)) text last × Says b c p q text))
-    → IfErr ended (λ f. IfSome left (λ xs. TalksUntil f settings.roll s (acts_from settings first (line ∷ heard_lines xs)) b c p q))
+    → OnOk ended (IfSome left (λ xs. (text : List ℕ) × Talks settings.roll s (acts_from settings cells first (line ∷ heard_lines xs)) text last × Says b c p q text))
+    → IfErr ended (λ f. IfSome left (λ xs. TalksUntil f settings.roll s (acts_from settings cells first (line ∷ heard_lines xs)) b c p q))
     → OnOk ended (KeepsTurned before mid s.talk last.talk) → Keeps ended last.met result → OnOk result (KeepsLast mid after last.talk)
     → IfSome known (λ xs. ComesTo on xs a c w q (record { old = before; new = after }) result)
-come-talk on before mid after None left a b c e line first w p q settings s last ended result h same can orderly ready all until turned keeps kept = tt
-come-talk on before mid after (Some xs) left a b c e line first w p q settings s last ended result (rest, left_is, starts, starts_is, said, is, says) same can orderly ready all until turned keeps kept =
+come-talk on before mid after None left a b c e line first w p q settings cells s last ended result h same can orderly refuses ready all until turned keeps kept = tt
+come-talk on before mid after (Some xs) left a b c e line first w p q settings cells s last ended result (rest, left_is, starts, starts_is, said, is, says) same can orderly refuses ready all until turned keeps kept =
     by ended result all until turned keeps kept
   where
     o : Opening
     o = record { starts = starts; head = e; number = first; lines = line ∷ heard_lines rest }
 
-    t : Talked on xs o a b c w p q
+    t : Talked on xs o cells a b c w p q
     t = record {
       at = ap (λ (x : Head). x.opening) is;
       may = (can starts starts_is, orderly starts starts_is);
+      refuses = refuses starts starts_is;
       says = subst (λ (x : List ℕ). Says a b w p x) (ap (λ (x : Head). all_of x.said) (sym is)) says;
     }
 
-    by : (ended : Result (Unit {0}) TalkFault) (result : Result Bool TalkFault) → OnOk ended (IfSome left (λ xs. (text : List ℕ) × Talks settings.roll s (acts_from settings first (line ∷ heard_lines xs)) text last × Says b c p q text))
-        → IfErr ended (λ f. IfSome left (λ xs. TalksUntil f settings.roll s (acts_from settings first (line ∷ heard_lines xs)) b c p q))
+    by : (ended : Result (Unit {0}) TalkFault) (result : Result Bool TalkFault) → OnOk ended (IfSome left (λ xs. (text : List ℕ) × Talks settings.roll s (acts_from settings cells first (line ∷ heard_lines xs)) text last × Says b c p q text))
+        → IfErr ended (λ f. IfSome left (λ xs. TalksUntil f settings.roll s (acts_from settings cells first (line ∷ heard_lines xs)) b c p q))
         → OnOk ended (KeepsTurned before mid s.talk last.talk) → Keeps ended last.met result → OnOk result (KeepsLast mid after last.talk) → ComesTo on xs a c w q (record { old = before; new = after }) result
     by (Ok done) (Ok met) all until turned keeps kept =
-        come_all on (record { old = before; new = after }) xs o last a b c w p q t (all_said on.settings settings rest first line b c p q left s (opened on o) last left_is same (ready starts starts_is) all)
+        come_all on (record { old = before; new = after }) xs o cells last a b c w p q t (all_said on.settings settings cells rest first line b c p q left s (opened on o) last left_is same (ready starts starts_is) all)
         (keeps-all before mid after (opened on o).talk last.talk (subst (λ (x : Fleet Global). KeepsTurned before mid x.talk last.talk) (ready starts starts_is) turned) kept) met keeps.0
     by (Ok done) (Err f) all until turned keeps kept =
-        come_unkept on (record { old = before; new = after }) xs o last a b c w p q f t (all_said on.settings settings rest first line b c p q left s (opened on o) last left_is same (ready starts starts_is) all) keeps.1
+        come_unkept on (record { old = before; new = after }) xs o cells last a b c w p q f t (all_said on.settings settings cells rest first line b c p q left s (opened on o) last left_is same (ready starts starts_is) all) keeps.1
     by (Err f) result all until turned keeps kept =
         subst (ComesTo on xs a c w q (record { old = before; new = after })) (sym keeps)
-        (come_until on (record { old = before; new = after }) xs o a b c w p q f t (until_said on.settings settings rest first line b c p q left s (opened on o) f left_is same (ready starts starts_is) until))
+        (come_until on (record { old = before; new = after }) xs o cells a b c w p q f t (until_said on.settings settings cells rest first line b c p q left s (opened on o) f left_is same (ready starts starts_is) until))

@@ -2,7 +2,7 @@
 use Rattle.std.proofs.Common.{◌≡◌, ◌∙◌, ℕ, ◌+◌, Bool, true, false, cond, List, [], ◌∷◌, ◌++◌, Option, Some, None, IfSome, refl, sym, ap, subst, append_assoc, append-nil, unwrap_or}
 use Rattle.fleet_script.specs.Script.{Draft}
 use Rattle.fleet_talk.specs.declared.ask.Asked.{Asked}
-use Rattle.fleet_talk.specs.declared.ask.Asked.TheVariants.{Nothing, Events, Chapter, Look, Open, Quit, Other, Long}
+use Rattle.fleet_talk.specs.declared.ask.Asked.TheVariants.{Nothing, Events, Chapter, Look, Open, Quit, Other, Long, NoRoom}
 use Rattle.fleet_talk.specs.declared.ends.Settings.{Settings}
 use Rattle.fleet_talk.specs.declared.fault.TalkFault.{TalkFault}
 use Rattle.fleet_talk.specs.declared.fault.TalkFault.TheVariants.{NoMemory}
@@ -32,6 +32,7 @@ opens-starts d Nothing starts is = absurd cc
 opens-starts d Quit starts is = absurd cc
 opens-starts d Other starts is = absurd cc
 opens-starts d Long starts is = absurd cc
+opens-starts d (NoRoom client) starts is = absurd cc
 
 module _ (settings : Settings) where
   -- what comes of a line

@@ -9,6 +9,7 @@ pub mod Rolling
 pub mod Breaking
 pub mod Onces
 pub mod Onward
+mod Doors
 pub mod Finishing
 pub mod Resumptions
 pub mod Starting

@@ -10,11 +10,11 @@ use Rattle.fleet_book.specs.declared.event.Event.{Event}
 use Rattle.fleet_world.specs.declared.reply.Reply.{Reply}
 use Rattle.fleet_world.specs.Talk.{Talk, TalkStep, next_talk}
 use Rattle.fleet_talk.specs.declared.ask.Asked.{Asked}
-use Rattle.fleet_talk.specs.declared.ask.Asked.TheVariants.{Nothing, Events, Chapter as TheChapter, Look, Open, Quit, Other, Long}
+use Rattle.fleet_talk.specs.declared.ask.Asked.TheVariants.{Nothing, Events, Chapter as TheChapter, Look, Open, Quit, Other, Long, NoRoom}
 use Rattle.fleet_talk.specs.declared.ends.Settings.{Settings}
 use Rattle.fleet_talk.specs.declared.fault.TalkFault.{TalkFault}
 use Rattle.fleet_talk.specs.declared.pen.Pen.{Pen}
-use Rattle.fleet_talk.specs.Act.{Act, act_asked, acts_asked, acts_end, acts_on, list, play, say, show, times_asked, turn}
+use Rattle.fleet_talk.specs.Act.{Act, act_asked, acts_asked, acts_end, acts_on, list, play, refuse, say, show, times_asked, turn}
 use Rattle.fleet_talk.specs.Acts.{Does, NeedsRoom, Plays, Talks, handed, rolls, wants_room}
 use Rattle.fleet_talk.specs.Ask.{Line}
 use Rattle.fleet_talk.specs.Chapters.{Adds, ChapterView, KeepsTurned, beginning, chapter_in, chapter_shown}
@@ -37,6 +37,7 @@ asked-times line (Open client) = refl
 asked-times line Quit = refl
 asked-times line Other = refl
 asked-times line Long = refl
+asked-times line (NoRoom client) = refl
 
 -- a chapter was handed out for an event that was refused, and changed nothing
 pub comes-handed : (roll : Bool) (s m t : Talk Global) (e : Event) (reply : Reply) (found : Option (Chapter Global)) (chapter : Chapter Global) → TalkStep s e reply m → wants_room roll reply ≡ true
@@ -95,6 +96,7 @@ does-turned roll s m t (play mark e) chapter text (on, needs) (is, sound, next) 
 does-turned roll s m t (say mark line) chapter text wants hands met goes = absurd wants
 does-turned roll s m t (show mark) chapter text wants hands met goes = absurd wants
 does-turned roll s m t (list mark client) chapter text wants hands met goes = absurd wants
+does-turned roll s m t (refuse mark client) chapter text wants hands met goes = absurd wants
 
 -- the same of what one call came to, and the call after it
 pub once-turned : (roll : Bool) (s m t : Fleet Global) (act : Act) (found : Option (Chapter Global)) (chapter : Chapter Global) (old mid new : Pen) → Comes roll s act found old mid m → found ≡ Some chapter

@@ -7,16 +7,22 @@ use Rattle.std.proofs.lemmas.Option.{same_Some}
 use Rattle.std.specs.Prelude.{filter, not}
 use Rattle.fleet_map.specs.Text.{is_blank, is_empty, words_of}
 use Rattle.fleet_book.specs.declared.event.Event.{Event}
+use Rattle.fleet_book.specs.declared.event.Event.TheVariants.{Post, Take, Tick, Give, Collect, Shut}
+use Rattle.fleet_book.specs.declared.order.Order.{Order}
+use Rattle.fleet_book.specs.declared.order.Order.TheVariants.{Go, Close, Withdraw}
+use Rattle.fleet_roomy.specs.Unroomy.{has}
+use Rattle.fleet_script.specs.declared.lines.Repeat.{Repeat}
 use Rattle.fleet_script.specs.Script.{Draft, Plan, Repeated, starts_within, if_new, with_header, with_header_within, with_events, no_events, with_line_of, with_line, with_words, is_comment, events_of, plan_from, limits_of, or_line, and_then, draft_of, blank_draft, script_of}
 use Rattle.fleet_script.specs.Numbers.{numbers_in}
 use Rattle.fleet_script.specs.Grammar.{is_header}
 use Rattle.fleet_script.proofs.Heads.{at_word, header_is}
 use Rattle.fleet_script.proofs.Forms.{event_is, other_is}
 use Rattle.fleet_talk.specs.declared.ask.Asked.{Asked}
-use Rattle.fleet_talk.specs.declared.ask.Asked.TheVariants.{Nothing, Events, Other}
+use Rattle.fleet_talk.specs.declared.ask.Asked.TheVariants.{Nothing, Events, Chapter as TheChapter, Look, Open, Quit, Other, Long, NoRoom}
 use Rattle.fleet_talk.specs.declared.ends.Settings.{Settings}
 use Rattle.fleet_talk.specs.Ask.{Line, line_in, asked_in, word_asked, is_marked}
 use Rattle.fleet_talk.specs.Act.{Act, play, is_quit, acts_asked, acts_on, acts_from}
+use Rattle.fleet_talk.specs.Door.{event_let_in, let_in, line_let_in, order_let_in}
 use Rattle.fleet_talk.specs.Heard.{parts_of, heard_lines, AreShort, Opening, Head, no_head, with_said, unless_opened, opens, header_texts, with_head_line, head_of}
 
 -- ---- lines without a mark
@@ -190,7 +196,7 @@ line_is d n raw m asked short line is = plain_line n raw short (unmarked d n (st
 
 -- without marks
 abbrev pub unmarked_settings : Bool → Settings
-unmarked_settings roll = record { marks = false; roll = roll }
+unmarked_settings roll = record { marks = false; roll = roll; roomy = false }
 
 -- of a line that is short all is heard
 whole_lines : (most : ℕ) (raws : List (List ℕ)) → AllByRecursion (λ raw. length raw ≤ most) raws → map (take most) raws ≡ raws
@@ -201,7 +207,36 @@ shorter : (raws : List (List ℕ)) → AllByRecursion IsShort raws → AllByRecu
 shorter [] short = tt
 shorter (raw ∷ raws) short = (omega (arith, short.0), shorter raws short.1)
 
-module _ (roll : Bool) where
+-- where posts to no cell are refused, a line asks what it asks
+module _ (cells : List Bool) (none : (c : ℕ) → has cells c ≡ false) where
+  same_order : (more : Repeat) (client : ℕ) (order : Order) → order_let_in cells more client order ≡ Events more
+  same_order more client (Go robot cell) = rw (none cell) refl
+  same_order more client Close = refl
+  same_order more client (Withdraw number) = refl
+
+  same_event : (more : Repeat) (event : Event) → event_let_in cells more event ≡ Events more
+  same_event more (Post client order) = same_order more client order
+  same_event more (Take client) = refl
+  same_event more Tick = refl
+  same_event more (Give client) = refl
+  same_event more (Collect client) = refl
+  same_event more (Shut robot) = refl
+
+  same_asked : (asked : Asked) → let_in cells asked ≡ asked
+  same_asked (Events more) = same_event more more.event
+  same_asked Nothing = refl
+  same_asked TheChapter = refl
+  same_asked Look = refl
+  same_asked (Open client) = refl
+  same_asked Quit = refl
+  same_asked Other = refl
+  same_asked Long = refl
+  same_asked (NoRoom client) = refl
+
+  same_line : (n : ℕ) (raw : List ℕ) → line_let_in cells n raw ≡ line_in n raw
+  same_line n raw = ap (λ (asked : Asked). record (line_in n raw) { asked = asked }) (same_asked (line_in n raw).asked)
+
+module _ (roll : Bool) (cells : List Bool) (none : (c : ℕ) → has cells c ≡ false) where
   abbrev settings : Settings
   settings = unmarked_settings roll
 
@@ -210,15 +245,15 @@ module _ (roll : Bool) where
 
   -- what is done at a line of a script
   acts_are : (n : ℕ) (raw : List ℕ) (raws : List (List ℕ)) (asked : Asked) → line_in n raw ≡ script_line n raw asked → is_quit asked ≡ false
-      → acts_from settings n (raw ∷ raws) ≡ acts_asked (script_line n raw asked) asked ++ acts_from settings (n + 1) raws
+      → acts_from settings cells n (raw ∷ raws) ≡ acts_asked (script_line n raw asked) asked ++ acts_from settings cells (n + 1) raws
   acts_are n raw raws asked is goes =
-      let rest = acts_from settings (n + 1) raws in
-      ap (acts_at rest) is ∙ rw goes (ap (λ l. l ++ rest) (append-nil (acts_asked (script_line n raw asked) asked)))
+      let rest = acts_from settings cells (n + 1) raws in
+      ap (acts_at rest) (same_line cells none n raw ∙ is) ∙ rw goes (ap (λ l. l ++ rest) (append-nil (acts_asked (script_line n raw asked) asked)))
 
   record Body (d : Draft) (n : ℕ) (raws : List (List ℕ)) (plan : Plan) : Type 0 where
     more : List Event
     all : plan.events ≡ d.events ++ more
-    acts : acts_from settings n raws ≡ plays more
+    acts : acts_from settings cells n raws ≡ plays more
     of : IsOf d plan
 
   -- what is done at event lines, after one that happens so often
@@ -228,7 +263,7 @@ module _ (roll : Bool) where
     more = replicate r.times r.event ++ b.more;
     all = b.all ∙ append_assoc d.events (replicate r.times r.event) b.more;
     acts = acts_are n raw raws (Events (record { event = r.event; times = r.times })) line refl
-        ∙ (ap (λ l. l ++ acts_from settings (n + 1) raws) (plays_times r.times r.event) ∙ (ap (λ l. plays (replicate r.times r.event) ++ l) b.acts ∙ sym (plays_append (replicate r.times r.event) b.more)));
+        ∙ (ap (λ l. l ++ acts_from settings cells (n + 1) raws) (plays_times r.times r.event) ∙ (ap (λ l. plays (replicate r.times r.event) ++ l) b.acts ∙ sym (plays_append (replicate r.times r.event) b.more)));
     of = record { starts = b.of.starts; clients = b.of.clients; south = b.of.south; limits = b.of.limits };
   }
 
@@ -264,7 +299,7 @@ module _ (roll : Bool) where
   -- nothing is said to the head of a script, and its first event line opens the fleet
   pub data Heads (d : Draft) (n : ℕ) (raws : List (List ℕ)) (plan : Plan) : Type 0 where
     unopened : head_of settings d n raws ≡ no_head → plan.events ≡ [] → Heads d n raws plan
-    opened : (o : Opening) → head_of settings d n raws ≡ record { said = []; opening = Some o } → o.starts ≡ plan.starts → IsOf o.head plan → acts_from settings o.number o.lines ≡ plays plan.events → Heads d n raws plan
+    opened : (o : Opening) → head_of settings d n raws ≡ record { said = []; opening = Some o } → o.starts ≡ plan.starts → IsOf o.head plan → acts_from settings cells o.number o.lines ≡ plays plan.events → Heads d n raws plan
 
   -- a line to which nothing is said
   heads_more : (d : Draft) (n : ℕ) (raw : List ℕ) (raws : List (List ℕ)) (plan : Plan) (m : Draft) → head_of settings d n (raw ∷ raws) ≡ head_of settings m (n + 1) raws → Heads m (n + 1) raws plan → Heads d n (raw ∷ raws) plan

@@ -2,9 +2,10 @@
 use Rattle.std.specs.Prelude.{ℕ, ◌+◌, Bool, true, false, List, [], ◌∷◌, ◌++◌, replicate, Option, None, if◌then◌else◌}
 use Rattle.fleet_book.specs.declared.event.Event.{Event}
 use Rattle.fleet_talk.specs.declared.ask.Asked.{Asked}
-use Rattle.fleet_talk.specs.declared.ask.Asked.TheVariants.{Nothing, Events, Chapter, Look, Open, Quit, Other, Long}
+use Rattle.fleet_talk.specs.declared.ask.Asked.TheVariants.{Nothing, Events, Chapter, Look, Open, Quit, Other, Long, NoRoom}
 use Rattle.fleet_talk.specs.declared.ends.Settings.{Settings}
-use Rattle.fleet_talk.specs.Ask.{Line, line_in}
+use Rattle.fleet_talk.specs.Ask.{Line}
+use Rattle.fleet_talk.specs.Door.{line_let_in}
 use Rattle.fleet_text.specs.Answers.{bad_line}
 use Rattle.fleet_talk.specs.Says.{end_line}
 
@@ -20,6 +21,8 @@ pub data Act : Type 0 where
   show : Option (List ℕ) → Act
   -- a client's open errands are listed
   list : Option (List ℕ) → ℕ → Act
+  -- a client's post is refused, since its cell is not roomy
+  refuse : Option (List ℕ) → ℕ → Act
 
 abbrev pub acts_asked : Line → Asked → List Act
 acts_asked line Nothing = []
@@ -30,6 +33,7 @@ acts_asked line (Open client) = list line.mark client ∷ []
 acts_asked line Quit = []
 acts_asked line Other = say line.mark (bad_line line.number) ∷ []
 acts_asked line Long = say line.mark (bad_line line.number) ∷ []
+acts_asked line (NoRoom client) = refuse line.mark client ∷ []
 
 -- the same as one act, and how many times it is done
 abbrev pub act_asked : Line → Asked → Act
@@ -39,6 +43,7 @@ act_asked line Look = show line.mark
 act_asked line (Open client) = list line.mark client
 act_asked line Other = say line.mark (bad_line line.number)
 act_asked line Long = say line.mark (bad_line line.number)
+act_asked line (NoRoom client) = refuse line.mark client
 -- of these none is done
 act_asked line Nothing = say None []
 act_asked line Quit = say None []
@@ -52,6 +57,7 @@ times_asked (Open client) = 1
 times_asked Quit = 0
 times_asked Other = 1
 times_asked Long = 1
+times_asked (NoRoom client) = 1
 
 -- the end of a line's answer, where that is to be said
 abbrev pub acts_end : Settings → Line → List Act
@@ -66,8 +72,9 @@ abbrev pub is_quit : Asked → Bool
 is_quit Quit = true
 is_quit _ = false
 
--- what is done at lines, the first of which has this number, up to one that says quit
-abbrev pub acts_from : Settings → ℕ → List (List ℕ) → List Act
-acts_from settings number [] = []
-acts_from settings number (bytes ∷ lines) =
-    if is_quit (line_in number bytes).asked then [] else acts_on settings (line_in number bytes) ++ acts_from settings (number + 1) lines
+-- what is done at lines, the first of which has this number, up to one that says quit, where posts to these cells are refused
+abbrev pub acts_from : Settings → List Bool → ℕ → List (List ℕ) → List Act
+acts_from settings cells number [] = []
+acts_from settings cells number (bytes ∷ lines) =
+    if is_quit (line_let_in cells number bytes).asked then []
+    else acts_on settings (line_let_in cells number bytes) ++ acts_from settings cells (number + 1) lines

@@ -10,7 +10,8 @@ use Rattle.fleet_world.specs.declared.reply.Reply.{Reply}
 use Rattle.fleet_world.specs.declared.reply.Reply.TheVariants.{TakeRefused, TickRefused, ShutRefused}
 use Rattle.fleet_text.specs.Output.{event_text, is_limit_met}
 use Rattle.fleet_world.specs.Talk.{Talk, TalkStep, next_talk}
-use Rattle.fleet_talk.specs.Act.{Act, say, play, turn, show, list}
+use Rattle.fleet_talk.specs.Act.{Act, say, play, turn, show, list, refuse}
+use Rattle.fleet_talk.specs.Door.{refused_post_text}
 use Rattle.fleet_talk.specs.Fleet.{Fleet}
 use Rattle.fleet_text.specs.Answers.{chapter_line, chapter_refused_line}
 use Rattle.fleet_talk.specs.Says.{marked}
@@ -60,6 +61,7 @@ Does {A} roll s (play mark e) text t =
 Does roll s (turn mark) text t = HandsOut s.talk mark text t.talk × (t.met ≡ s.met)
 Does roll s (show mark) text t = (line : List ℕ) × IsLook s.talk.world line × (text ≡ marked mark line) × (t ≡ s)
 Does roll s (list mark client) text t = (text ≡ marked mark (listed_text s.talk.world client)) × (t ≡ s)
+Does roll s (refuse mark client) text t = (text ≡ marked mark (refused_post_text s.talk.world client)) × (t ≡ s)
 
 -- acts one after another, and all that is said of them
 abbrev pub Talks : {A : Type 0} → Bool → Fleet A → List Act → List ℕ → Fleet A → Type 0

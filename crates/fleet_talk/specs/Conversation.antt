@@ -18,6 +18,7 @@ use Rattle.fleet_talk.specs.Act.{Act, acts_from}
 use Rattle.fleet_talk.specs.Acts.{Talks}
 use Rattle.fleet_talk.specs.Broken.{SaysUntil}
 use Rattle.fleet_talk.specs.Chapters.{Adds, AreChapters, ChapterView}
+use Rattle.fleet_talk.specs.Door.{AreRefused}
 use Rattle.fleet_talk.specs.Fleet.{Fleet, opened_fleet}
 use Rattle.fleet_talk.specs.Heard.{Opening, Head, all_of, head_of, heard_lines}
 use Rattle.fleet_talk.specs.Says.{Says}
@@ -53,9 +54,13 @@ MayOpen on o = CanOpen on.floor o.starts (clients_in o.head) (limits_in o.head) 
 abbrev pub opened : {A : Type 0} → Terms → Opening → Fleet A
 opened on o = opened_fleet (opened_talk on.floor o.starts (clients_in o.head) (limits_in o.head) (laws_in on.kit o.head o.starts))
 
+-- posts to exactly these cells are refused in it
+abbrev pub Refuses : Terms → Opening → List Bool → Type 0
+Refuses on o cells = AreRefused on.settings.roomy on.floor (length o.starts) cells
+
 -- all that is done at the lines of the open fleet
-abbrev pub acts_of : Terms → Opening → List Act
-acts_of on o = acts_from on.settings o.number o.lines
+abbrev pub acts_of : Terms → List Bool → Opening → List Act
+acts_of on cells o = acts_from on.settings cells o.number o.lines
 
 -- ---- texts of conversations
 
@@ -65,13 +70,14 @@ pub data IsConversation (on : Terms) (bytes text : List ℕ) (chapters : List (C
   -- no line opened the fleet
   unopened : (head_in on bytes).opening ≡ None → text ≡ all_of (head_in on bytes).said → chapters ≡ [] → met ≡ false → IsConversation on bytes text chapters met
   -- the fleet was opened, and all was done that the lines from then on ask
-  talked : (o : Opening) → (head_in on bytes).opening ≡ Some o → MayOpen on o → (answers : List ℕ) (last : Fleet Global) → Talks on.settings.roll (opened on o) (acts_of on o) answers last
+  talked : (o : Opening) → (head_in on bytes).opening ≡ Some o → MayOpen on o → (cells : List Bool) → Refuses on o cells
+      → (answers : List ℕ) (last : Fleet Global) → Talks on.settings.roll (opened on o) (acts_of on cells o) answers last
       → text ≡ all_of (head_in on bytes).said ++ answers → AreChapters (opened {A = Global} on o).talk.world last.talk.world chapters → met ≡ last.met → IsConversation on bytes text chapters met
 
 -- the beginning of one: some first texts of its head, or all of these and what is said of some first acts
 pub data IsBegun (on : Terms) (bytes text : List ℕ) : Type 0 where
   in_head : (said left : List (List ℕ)) → (head_in on bytes).said ≡ said ++ left → text ≡ all_of said → IsBegun on bytes text
-  in_talk : (o : Opening) → (head_in on bytes).opening ≡ Some o → MayOpen on o → (done left : List Act) → acts_of on o ≡ done ++ left
+  in_talk : (o : Opening) → (head_in on bytes).opening ≡ Some o → MayOpen on o → (cells : List Bool) → Refuses on o cells → (done left : List Act) → acts_of on cells o ≡ done ++ left
       → (answers : List ℕ) (last : Fleet Global) → Talks on.settings.roll (opened on o) done answers last
       → text ≡ all_of (head_in on bytes).said ++ answers → IsBegun on bytes text
 
@@ -110,4 +116,4 @@ pub record NamesLimits (d : Draft) : Type 0 where
 
 -- a conversation without marks, in which no chapter is handed out unasked
 abbrev pub plain_terms : KitLaws → Floor → Terms
-plain_terms kit m = record { kit = kit; floor = m; settings = record { marks = false; roll = false }; head = blank_draft }
+plain_terms kit m = record { kit = kit; floor = m; settings = record { marks = false; roll = false; roomy = false }; head = blank_draft }

@@ -1,6 +1,7 @@
 pub mod Ask
 pub mod Lines
 pub mod Says
+pub mod Door
 pub mod Act
 pub mod Heard
 pub mod Broken

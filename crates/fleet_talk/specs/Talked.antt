@@ -20,11 +20,11 @@ pub record TalksUntil {A : Type 0} (fault : TalkFault) (roll : Bool) (s : Fleet 
   pub says : SaysUntil fault before after waited waits text
 
 -- the lines of these bytes before this one, which has this number, were answered, and these bytes are left after it
-pub record Goes {A : Type 0} (settings : Settings) (s : Fleet A) (asked : List Act) (left : Option (List ℕ)) (m : Fleet A) (number : ℕ) (line : List ℕ) (before after : Option (List ℕ)) (waited waits : List ℕ) : Type 0 where
+pub record Goes {A : Type 0} (settings : Settings) (cells : List Bool) (s : Fleet A) (asked : List Act) (left : Option (List ℕ)) (m : Fleet A) (number : ℕ) (line : List ℕ) (before after : Option (List ℕ)) (waited waits : List ℕ) : Type 0 where
   pub rest : List ℕ
   pub at : left ≡ Some rest
   pub done : List Act
-  pub parts : asked ≡ done ++ acts_from settings number (line ∷ heard_lines rest)
+  pub parts : asked ≡ done ++ acts_from settings cells number (line ∷ heard_lines rest)
   pub text : List ℕ
   pub talks : Talks settings.roll s done text m
   pub says : Says before after waited waits text

@@ -29,6 +29,8 @@ pub enum Asked {
     Other,
     /// It is longer than a line may be.
     Long,
+    /// A post of this client to a cell to which posts are refused.
+    NoRoom(u32),
 }
 
 /// A line: its number, from 1; its mark; the text after the mark; and what this asks.

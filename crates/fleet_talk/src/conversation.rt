@@ -1,6 +1,6 @@
 //! A conversation as a whole.
 
-ghost use Rattle.std.specs.Prelude.{◌≡◌, ◌≤◌, ◌↔◌, ◌∷◌, ℕ, List, [], Ok, Err, Some, OnOk, IfOk, IfErr, IfSome, vec_len};
+ghost use Rattle.std.specs.Prelude.{◌≡◌, ◌≤◌, ◌↔◌, ◌∷◌, ℕ, List, [], length, Ok, Err, Some, OnOk, IfOk, IfErr, IfSome, vec_len};
 ghost use Rattle.std.specs.Io.Buffered.{reader_buffer, reader_remaining};
 ghost use Rattle.std.specs.Io.KnownBytes.{Appends};
 ghost use Rattle.std.specs.declared.alloc.Global.{Global};
@@ -16,25 +16,28 @@ ghost use Rattle.fleet_world.specs.Talk.{opened_talk};
 ghost use Rattle.fleet_talk.specs.Broken.{IsMidway};
 ghost use Rattle.fleet_talk.specs.Chapters.{Adds, ChapterView, IsSound, KeepsLast, chapter_shown};
 ghost use Rattle.fleet_talk.specs.Conversation.{ComesTo, IsBegun, IsConversation, IsRefusedHead, Terms, clients_in, laws_in, limits_in};
+ghost use Rattle.fleet_talk.specs.Door.{AreRefused};
 ghost use Rattle.fleet_talk.specs.Due.{IsDone};
 ghost use Rattle.fleet_talk.specs.Ending.{Finishes, Keeps};
 ghost use Rattle.fleet_talk.specs.Heading.{drafted};
 ghost use Rattle.fleet_talk.specs.Refusals.{talk_fault};
 
+use crate::door::{Door, counted, door_for};
 use crate::ends::{ChapterSink, Ends, Settings};
 use crate::fault::TalkFault;
-use crate::going::go_on;
+use crate::going::{Entrance, go_on};
 use crate::ground::{Ground, TALK_LIMITS};
 use crate::heading::hear_head;
 use crate::open_fleet::OpenFleet;
 use crate::pen::Pen;
+use crate::resuming::robots_named;
 use fleet_core::OpenFault;
 use fleet_grid::Grid;
 use fleet_history::Chapter;
 use fleet_script::Head;
 use fleet_text::HookKit;
 use fleet_world::Session;
-use std::alloc::{Alloc, Global};
+use std::alloc::{Alloc, AllocError, Global};
 use std::io::{Read, Write};
 
 /// Opens the fleet that the head names.
@@ -67,6 +70,50 @@ fn open(alloc: Global, grid: Grid, kit: HookKit, head: Head) -> Result<Session, 
         limits.limits_over(TALK_LIMITS),
         hooks,
     )
+}
+
+/// Opens the fleet that the head names, and its door.
+fn open_with_door(
+    alloc: Global,
+    ground: Ground,
+    settings: Settings,
+) -> Result<(Session, Door), OpenFault>
+    // Of each call: only a call with a condition may hand on closures that another crate hands out.
+    requires { 0 ≤ vec_len ground.kit.plain.ties }
+    ensures refused { (starts : List ℕ) → (drafted ground.head).starts ≡ Some starts → (fault : OpenFault) → IsNamed fault → result ≡ Err fault →
+        IsRefused ground.grid starts (clients_in (drafted ground.head)) (limits_in (drafted ground.head)) (laws_in (kit_laws ground.kit) (drafted ground.head) starts) fault }
+    ensures can { (starts : List ℕ) → (drafted ground.head).starts ≡ Some starts → OnOk result (
+        CanOpen ground.grid starts (clients_in (drafted ground.head)) (limits_in (drafted ground.head)) (laws_in (kit_laws ground.kit) (drafted ground.head) starts)) }
+    ensures orderly { (starts : List ℕ) → (drafted ground.head).starts ≡ Some starts → OnOk result (AreOrderly (laws_in (kit_laws ground.kit) (drafted ground.head) starts)) }
+    ensures ok { (starts : List ℕ) → (drafted ground.head).starts ≡ Some starts → IfOk result (λ r.
+        talk r.0 ≡ opened_talk ground.grid starts (clients_in (drafted ground.head)) (limits_in (drafted ground.head)) (laws_in (kit_laws ground.kit) (drafted ground.head) starts)) }
+    ensures door { (starts : List ℕ) → (drafted ground.head).starts ≡ Some starts → IfOk result (λ r.
+        AreRefused settings.roomy ground.grid (length starts) r.1.refused.marks.items) }
+{
+    let Ground { grid, kit, head } = ground;
+    let robots = counted(robots_named(&head).unwrap_or(0));
+    let door = door_for(alloc, settings.roomy, &grid, robots);
+    match open(alloc, grid, kit, head) {
+        Ok(session) => with_door(session, door),
+        Err(fault) => Err(fault),
+    }
+}
+
+/// A fleet and its door, unless memory ran out for the door.
+fn with_door(session: Session, door: Result<Door, AllocError>) -> Result<(Session, Door), OpenFault>
+    // Of each call: only a call with a condition may hand on closures.
+    requires { 0 ≤ session.world.core.number }
+    ensures session { IfOk result (λ r. talk r.0 ≡ talk session) }
+    ensures door { IfOk result (λ r. door ≡ Ok r.1) }
+    ensures fault { IfErr result (λ fault. fault ≡ OpenFault.NoMemory) }
+{
+    match door {
+        Ok(door) => Ok((session, door)),
+        Err(AllocError) => {
+            let _left = session.finish();
+            Err(OpenFault::NoMemory)
+        }
+    }
 }
 
 /// Why a conversation breaks off when its fleet cannot be opened.
@@ -146,13 +193,18 @@ fn hold<R: Alloc<A = Global>, I: Read, W: Write, S: ChapterSink>(
     let mut head = head;
     let mut bytes = Vec::new(alloc);
     match hear_head(alloc, ends, &mut head, &mut bytes, pen) {
-        Ok(Some(first)) => match open(alloc, grid, kit, head) {
-            Ok(session) => {
+        Ok(Some(first)) => match open_with_door(alloc, Ground { grid, kit, head }, pen.settings) {
+            Ok((session, door)) => {
+                ends.sink.opened(&door);
                 let mut fleet = OpenFleet {
                     session,
                     limited: false,
                 };
-                let ended = go_on(rt, &mut fleet, ends, &mut bytes, pen, first);
+                let entrance = Entrance {
+                    first,
+                    refused: &door.refused,
+                };
+                let ended = go_on(rt, &mut fleet, ends, &mut bytes, pen, entrance);
                 close(fleet, &mut ends.sink, ended)
             }
             Err(fault) => Err(opening_fault(fault)),

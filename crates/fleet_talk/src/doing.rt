@@ -5,12 +5,14 @@ ghost use Rattle.fleet_talk.specs.Act.{act_asked, show, times_asked, turn};
 ghost use Rattle.fleet_talk.specs.Acts.{Does};
 ghost use Rattle.fleet_talk.specs.Lines.{line_shown};
 ghost use Rattle.fleet_talk.specs.Listed.{listed_text};
+ghost use Rattle.fleet_talk.specs.Door.{refused_post_text};
 ghost use Rattle.fleet_talk.specs.Open.{fleet_of};
 ghost use Rattle.fleet_talk.specs.Said.{IsAdded, IsKept, under};
 ghost use Rattle.fleet_talk.specs.Says.{marked};
 ghost use Rattle.fleet_talk.specs.Once.{Comes};
 
 use crate::ask::{Asked, Line};
+use crate::door::refused_post_text;
 use crate::listed::listed_text;
 use crate::look::look_text;
 use crate::open_fleet::OpenFleet;
@@ -52,6 +54,22 @@ fn list(
     pen.say(alloc, mark, lines.as_str())
 }
 
+/// Refuses a client's post.
+fn refuse(
+    alloc: Global,
+    session: &Session,
+    pen: &mut Pen,
+    mark: Option<&[u8]>,
+    client: u32,
+) -> Result<(), AllocError>
+    requires { 0 ≤ session.now.world.core.number }
+    ensures ok { OnOk result (IsAdded pen.old pen.new (marked (under mark.entry) (refused_post_text session.now.world.core client))) }
+    ensures err { OnErr result (IsKept pen.old pen.new) }
+{
+    let line = refused_post_text(alloc, &session.world, client)?;
+    pen.say(alloc, mark, line.as_str())
+}
+
 /// Hands out the chapter, and says nothing yet. If it is the last, it says that instead.
 fn turn(
     alloc: Global,
@@ -79,7 +97,12 @@ pub(crate) fn times(asked: Asked) -> u32
     match asked {
         Asked::Nothing | Asked::Quit => 0,
         Asked::Events(more) => more.times,
-        Asked::Chapter | Asked::Look | Asked::Open(_) | Asked::Other | Asked::Long => 1,
+        Asked::Chapter
+        | Asked::Look
+        | Asked::Open(_)
+        | Asked::Other
+        | Asked::Long
+        | Asked::NoRoom(_) => 1,
     }
 }
 
@@ -109,6 +132,10 @@ pub(crate) fn hear<R: Alloc<A = Global>>(
         }
         Asked::Other | Asked::Long => {
             pen.say_bad(rt.alloc(), line)?;
+            Ok(None)
+        }
+        Asked::NoRoom(client) => {
+            refuse(rt.alloc(), &fleet.session, pen, line.mark, client)?;
             Ok(None)
         }
     }

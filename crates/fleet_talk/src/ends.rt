@@ -6,6 +6,7 @@ ghost use Rattle.fleet_grid.specs.Floor.{Floor};
 ghost use Rattle.fleet_history.specs.History.{history_of};
 ghost use Rattle.fleet_talk.specs.Chapters.{Adds, ChapterView, IsSound, chapter_shown};
 
+use crate::door::Door;
 use fleet_history::Chapter;
 use std::alloc::AllocError;
 use std::io::BufReader;
@@ -17,6 +18,8 @@ pub struct Settings {
     pub marks: bool,
     /// Whether a full chapter is handed out unasked, before an event whose entry has no room in it.
     pub roll: bool,
+    /// Whether posts to cells that are not roomy for the fleet's robots are refused.
+    pub roomy: bool,
 }
 
 /// Why a chapter was not kept.
@@ -58,6 +61,11 @@ pub trait ChapterSink {
 
     /// Learns that a fleet goes on, with the number of the chapter that was kept and the tick at its end.
     fn goes_on(&mut self, _chapter: u32, _tick: u64)
+        ensures kept { kept self.new ≡ kept self.old }
+    {}
+
+    /// Learns, when the fleet is open, to which cells posts are refused, and how many cells are not roomy.
+    fn opened(&mut self, _door: &Door)
         ensures kept { kept self.new ≡ kept self.old }
     {}
 }

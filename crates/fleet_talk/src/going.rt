@@ -14,8 +14,9 @@ ghost use Rattle.fleet_talk.specs.Said.{IsAdded, IsKept};
 ghost use Rattle.fleet_talk.specs.Says.{Says};
 ghost use Rattle.fleet_talk.specs.Talked.{TalksUntil};
 
-use crate::ask::{Line, is_quit, line_of};
+use crate::ask::{Line, is_quit};
 use crate::doing::{hear, times};
+use crate::door::line_let_in;
 use crate::ends::{ChapterSink, Ends};
 use crate::fault::TalkFault;
 use crate::open_fleet::OpenFleet;
@@ -23,6 +24,7 @@ use crate::pen::Pen;
 use crate::plays::turned;
 use crate::reading::next_line;
 use crate::writing::{write_if_due, write_if_full};
+use fleet_roomy::UnroomyCells;
 use std::alloc::{Alloc, Global};
 use std::io::{Read, Write};
 
@@ -73,26 +75,33 @@ fn answer<R: Alloc<A = Global>, I, W: Write, S: ChapterSink>(
     Ok(pen.say_end(rt.alloc(), line)?)
 }
 
-/// Answers the line that was just read, which has this number, and all lines that follow.
+/// Where an open fleet is talked to: from the line of this number on, with posts to these cells refused.
+#[derive(Clone, Copy)]
+pub(crate) struct Entrance<'a> {
+    pub(crate) first: u64,
+    pub(crate) refused: &'a UnroomyCells,
+}
+
+/// Answers the line that was just read, which has the entrance's number, and all lines that follow.
 pub(crate) fn go_on<R: Alloc<A = Global>, I: Read, W: Write, S: ChapterSink>(
     rt: &R,
     fleet: &mut OpenFleet,
     ends: &mut Ends<I, W, S>,
     bytes: &mut Vec<u8>,
     pen: &mut Pen,
-    first: u64,
+    entrance: Entrance<'_>,
 ) -> Result<(), TalkFault>
     requires { 0 ≤ fleet.old.session.world.core.number }
     ensures talks { OnOk result (IfSome (reader_remaining I.remaining ends.old.input) (λ xs. (text : List ℕ)
-        × Talks pen.old.settings.roll (fleet_of fleet.old) (acts_from pen.old.settings first (bytes.old.items ∷ heard_lines xs)) text (fleet_of fleet.new)
+        × Talks pen.old.settings.roll (fleet_of fleet.old) (acts_from pen.old.settings entrance.entry.refused.now.marks.items entrance.entry.first (bytes.old.items ∷ heard_lines xs)) text (fleet_of fleet.new)
         × Says (W.contents ends.old.output) (W.contents ends.new.output) pen.old.out.items pen.new.out.items text)) }
     ensures kept { OnOk result (KeepsTurned (S.kept ends.old.sink) (S.kept ends.new.sink) (talk fleet.old.session) (talk fleet.new.session)) }
     ensures broken { IfErr result (λ fault. IfSome (reader_remaining I.remaining ends.old.input) (λ xs.
-        TalksUntil fault pen.old.settings.roll (fleet_of fleet.old) (acts_from pen.old.settings first (bytes.old.items ∷ heard_lines xs))
+        TalksUntil fault pen.old.settings.roll (fleet_of fleet.old) (acts_from pen.old.settings entrance.entry.refused.now.marks.items entrance.entry.first (bytes.old.items ∷ heard_lines xs))
         (W.contents ends.old.output) (W.contents ends.new.output) pen.old.out.items pen.new.out.items)) }
 {
-    for number in first..u64::MAX {
-        let line = line_of(number, bytes);
+    for number in entrance.first..u64::MAX {
+        let line = line_let_in(entrance.refused, number, bytes);
         if is_quit(line.asked) {
             return Ok(());
         }

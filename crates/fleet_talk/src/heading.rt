@@ -56,7 +56,8 @@ fn hear_line(alloc: Global, head: &mut Head, line: Line<'_>) -> Result<bool, All
         | Asked::Look
         | Asked::Open(_)
         | Asked::Quit
-        | Asked::Long => Ok(false),
+        | Asked::Long
+        | Asked::NoRoom(_) => Ok(false),
     }
 }
 
@@ -77,7 +78,7 @@ fn opens_fleet(head: &Head, asked: Asked) -> bool
 {
     match asked {
         Asked::Events(_) | Asked::Chapter | Asked::Look | Asked::Open(_) => head.starts.is_some(),
-        Asked::Nothing | Asked::Quit | Asked::Other | Asked::Long => false,
+        Asked::Nothing | Asked::Quit | Asked::Other | Asked::Long | Asked::NoRoom(_) => false,
     }
 }
 

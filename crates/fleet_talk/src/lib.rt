@@ -4,6 +4,7 @@
 mod ask;
 mod conversation;
 mod doing;
+mod door;
 mod ends;
 mod fault;
 mod going;
@@ -25,6 +26,7 @@ mod writing;
 
 pub use ask::{Asked, Line, line_of};
 pub use conversation::converse;
+pub use door::{Door, UnroomyErrand, counted, door_for, line_let_in, unroomy_line};
 pub use ends::{ChapterSink, Ends, Settings, SinkFault};
 pub use fault::TalkFault;
 pub use ground::{Ground, MOST_LINE, MOST_ROBOTS, TALK_LIMITS};
@@ -32,5 +34,5 @@ pub use heading::read_head;
 pub use input_line::{LineFault, read_line};
 pub use law::{a_conversation_is_a_run, a_head_is_by_its_lines, a_script_is_a_run};
 pub use marks::add_marked;
-pub use resuming::{ResumeFault, disagreement, hooks_after, limits_after, world_after};
+pub use resuming::{ResumeFault, world_with_door};
 pub use resumption::resume;

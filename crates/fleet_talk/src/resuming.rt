@@ -1,14 +1,16 @@
 //! A fleet that goes on from a chapter that was kept.
 
-ghost use Rattle.std.specs.Prelude.{◌≡◌, ◌≤◌, None, IfOk, IfErr, OnOk, length, vec_len, if◌then◌else◌, unwrap_or};
+ghost use Rattle.std.specs.Prelude.{◌≡◌, ◌≤◌, false, None, Ok, IfOk, IfErr, OnOk, length, vec_len, if◌then◌else◌, unwrap_or};
 ghost use Rattle.std.specs.Option.{option_map};
 ghost use Rattle.fleet_text.specs.Kit.{kit_laws};
 ghost use Rattle.fleet_core.specs.Hooks.{laws_of};
 ghost use Rattle.fleet_world.specs.Keeps.{talk};
 ghost use Rattle.fleet_talk.specs.Chapters.{chapter_shown};
 ghost use Rattle.fleet_talk.specs.Heading.{drafted};
-ghost use Rattle.fleet_talk.specs.Resumed.{IsResumeFault, MayResume, disagreement, has_stamps, is_other, laws_after, limits_after, resumed, world_after};
+ghost use Rattle.fleet_talk.specs.Resumed.{IsDoorFault, IsResumeFault, LetsIn, MayResume, NoneWaits, disagreement, has_stamps, is_other, laws_after, limits_after, resumed, world_after};
 
+use crate::door::{Door, UnroomyErrand, counted, door_for, unroomy_errand};
+use crate::ends::Settings;
 use crate::fault::TalkFault;
 use crate::ground::{Ground, TALK_LIMITS};
 use fleet_book::Limits;
@@ -30,6 +32,8 @@ pub enum ResumeFault {
     Clients,
     /// No world goes on from the chapter, or memory ran out.
     Chapter(ReopenFault),
+    /// An errand in a queue goes to a cell that is not roomy, where such errands are refused.
+    Errand(UnroomyErrand),
     /// The fleet went on, and the conversation broke off.
     Talk(TalkFault),
 }
@@ -57,7 +61,7 @@ fn is_other(said: Option<usize>, is: usize) -> bool
 }
 
 /// How many robots the header lines name.
-fn robots_named(head: &Head) -> Option<usize>
+pub(crate) fn robots_named(head: &Head) -> Option<usize>
     ensures { result ≡ option_map (λ cells. length cells) (drafted head.now).starts }
 {
     match &head.starts {
@@ -135,7 +139,7 @@ pub fn world_after(alloc: Global, ground: Ground, chapter: &Chapter) -> Result<W
     requires { 0 ≤ vec_len ground.kit.plain.ties }
     ensures ok { IfOk result (λ w. w.core ≡ world_after (kit_laws ground.kit) ground.grid (drafted ground.head) (chapter_shown chapter.now)) }
     ensures may { OnOk result (MayResume (kit_laws ground.kit) ground.grid (drafted ground.head) (chapter_shown chapter.now)) }
-    ensures fault { IfErr result (λ fault. IsResumeFault (kit_laws ground.kit) ground.grid (drafted ground.head) (chapter_shown chapter.now) fault) }
+    ensures fault { IfErr result (λ fault. IsResumeFault false (kit_laws ground.kit) ground.grid (drafted ground.head) (chapter_shown chapter.now) fault) }
 {
     let Ground { grid, kit, head } = ground;
     match disagreement(&head, &chapter.opening) {
@@ -153,20 +157,74 @@ pub fn world_after(alloc: Global, ground: Ground, chapter: &Chapter) -> Result<W
     }
 }
 
-/// Opens the fleet that goes on from a chapter.
+/// The world that goes on from a chapter, as `world_after` gives it, and its door. Where errands to cells that are not
+/// roomy are refused, no errand in its queues goes to one.
+///
+/// Refused as `world_after` is, and then for the first such errand, by client and by robot.
+pub fn world_with_door(
+    alloc: Global,
+    ground: Ground,
+    chapter: &Chapter,
+    settings: Settings,
+) -> Result<(World, Door), ResumeFault>
+    // Of each call: only a call with a condition may hand on closures that another crate hands out.
+    requires { 0 ≤ vec_len ground.kit.plain.ties }
+    ensures ok { IfOk result (λ r. r.0.core ≡ world_after (kit_laws ground.kit) ground.grid (drafted ground.head) (chapter_shown chapter.now)) }
+    ensures may { OnOk result (MayResume (kit_laws ground.kit) ground.grid (drafted ground.head) (chapter_shown chapter.now)) }
+    ensures door { IfOk result (λ r. LetsIn (record { kit = kit_laws ground.kit; floor = ground.grid; settings = settings; head = drafted ground.head }) (chapter_shown chapter.now) r.1.refused.marks.items) }
+    ensures fault { IfErr result (λ fault. IsResumeFault settings.roomy (kit_laws ground.kit) ground.grid (drafted ground.head) (chapter_shown chapter.now) fault) }
+{
+    let door = door_for(
+        alloc,
+        settings.roomy,
+        &ground.grid,
+        counted(chapter.opening.robots.len()),
+    );
+    let world = match world_after(alloc, ground, chapter) {
+        Ok(world) => world,
+        Err(fault) => return Err(fault),
+    };
+    match door_to(alloc, &world, door) {
+        Ok(door) => Ok((world, door)),
+        Err(fault) => {
+            let _left = world.finish();
+            Err(fault)
+        }
+    }
+}
+
+/// The door of a world that goes on, unless an errand in its queues goes to a cell to which posts are refused.
+fn door_to(
+    alloc: Global,
+    world: &World,
+    door: Result<Door, AllocError>,
+) -> Result<Door, ResumeFault>
+    ensures ok { IfOk result (λ d. (door ≡ Ok d) × NoneWaits d.refused.marks.items world.now.core) }
+    ensures fault { IfErr result (λ fault. IsDoorFault world.now.core door fault) }
+{
+    let door = door?;
+    match unroomy_errand(alloc, world, &door.refused)? {
+        Some(errand) => Err(ResumeFault::Errand(errand)),
+        None => Ok(door),
+    }
+}
+
+/// Opens the fleet that goes on from a chapter, and its door.
 pub(crate) fn reopen(
     alloc: Global,
     ground: Ground,
     chapter: &Chapter,
-) -> Result<Session, ResumeFault>
+    settings: Settings,
+) -> Result<(Session, Door), ResumeFault>
     // Of each call: only a call with a condition may hand on closures that another crate hands out.
     requires { 0 ≤ vec_len ground.kit.plain.ties }
-    ensures ok { IfOk result (λ s. talk s ≡ resumed (kit_laws ground.kit) ground.grid (drafted ground.head) (chapter_shown chapter.now)) }
+    ensures ok { IfOk result (λ r. talk r.0 ≡ resumed (kit_laws ground.kit) ground.grid (drafted ground.head) (chapter_shown chapter.now)) }
     ensures may { OnOk result (MayResume (kit_laws ground.kit) ground.grid (drafted ground.head) (chapter_shown chapter.now)) }
-    ensures fault { IfErr result (λ fault. IsResumeFault (kit_laws ground.kit) ground.grid (drafted ground.head) (chapter_shown chapter.now) fault) }
+    ensures door { IfOk result (λ r. LetsIn (record { kit = kit_laws ground.kit; floor = ground.grid; settings = settings; head = drafted ground.head }) (chapter_shown chapter.now) r.1.refused.marks.items) }
+    ensures fault { IfErr result (λ fault. IsResumeFault settings.roomy (kit_laws ground.kit) ground.grid (drafted ground.head) (chapter_shown chapter.now) fault) }
 {
-    match world_after(alloc, ground, chapter) {
-        Ok(world) => Ok(Session::over(alloc, world)?),
+    match world_with_door(alloc, ground, chapter, settings) {
+        Ok((world, door)) => Ok((Session::over(alloc, world)?, door)),
         Err(fault) => Err(fault),
     }
 }

@@ -23,13 +23,14 @@ ghost use Rattle.fleet_talk.specs.Talked.{TalksUntil};
 use crate::conversation::{close, end};
 use crate::ends::{ChapterSink, Ends, Settings};
 use crate::fault::TalkFault;
-use crate::going::go_on;
+use crate::going::{Entrance, go_on};
 use crate::ground::Ground;
 use crate::open_fleet::OpenFleet;
 use crate::pen::Pen;
 use crate::reading::next_line;
 use crate::resuming::{ResumeFault, reopen};
 use fleet_history::Chapter;
+use fleet_roomy::UnroomyCells;
 use fleet_world::Session;
 use std::alloc::{Alloc, Global};
 use std::io::{Read, Write};
@@ -40,22 +41,30 @@ fn answer_all<R: Alloc<A = Global>, I: Read, W: Write, S: ChapterSink>(
     fleet: &mut OpenFleet,
     ends: &mut Ends<I, W, S>,
     pen: &mut Pen,
+    refused: &UnroomyCells,
 ) -> Result<(), TalkFault>
     requires number { 0 ≤ fleet.old.session.world.core.number }
     requires done { IsDone (reader_buffer ends.old.input) pen.old.out.items }
     ensures talks { OnOk result (IfSome (reader_remaining I.remaining ends.old.input) (λ xs. (text : List ℕ)
-        × Talks pen.old.settings.roll (fleet_of fleet.old) (acts_from pen.old.settings 1 (heard_lines xs)) text (fleet_of fleet.new)
+        × Talks pen.old.settings.roll (fleet_of fleet.old) (acts_from pen.old.settings refused.now.marks.items 1 (heard_lines xs)) text (fleet_of fleet.new)
         × Says (W.contents ends.old.output) (W.contents ends.new.output) pen.old.out.items pen.new.out.items text)) }
     ensures kept { OnOk result (KeepsTurned (S.kept ends.old.sink) (S.kept ends.new.sink) (talk fleet.old.session) (talk fleet.new.session)) }
     ensures broken { IfErr result (λ fault. IfSome (reader_remaining I.remaining ends.old.input) (λ xs.
-        TalksUntil fault pen.old.settings.roll (fleet_of fleet.old) (acts_from pen.old.settings 1 (heard_lines xs))
+        TalksUntil fault pen.old.settings.roll (fleet_of fleet.old) (acts_from pen.old.settings refused.now.marks.items 1 (heard_lines xs))
         (W.contents ends.old.output) (W.contents ends.new.output) pen.old.out.items pen.new.out.items)) }
 {
     let mut bytes = Vec::new(rt.alloc());
     if !next_line(&mut ends.input, pen, &mut bytes)? {
         return Ok(());
     }
-    go_on(rt, fleet, ends, &mut bytes, pen, 1)
+    go_on(
+        rt,
+        fleet,
+        ends,
+        &mut bytes,
+        pen,
+        Entrance { first: 1, refused },
+    )
 }
 
 /// Holds a conversation with an open fleet; the last answers are left for the caller to write. Returns whether a limit
@@ -65,12 +74,13 @@ fn hold_open<R: Alloc<A = Global>, I: Read, W: Write, S: ChapterSink>(
     session: Session,
     ends: &mut Ends<I, W, S>,
     pen: &mut Pen,
+    refused: &UnroomyCells,
 ) -> Result<bool, TalkFault>
     // Of each call: only a call with a condition may hand on closures.
     requires number { 0 ≤ session.world.core.number }
     requires done { IsDone (reader_buffer ends.old.input) pen.old.out.items }
     ensures { IfSome (reader_remaining I.remaining ends.old.input) (λ bytes.
-        ComesOpen pen.old.settings (opened_fleet (talk session)) bytes
+        ComesOpen pen.old.settings refused.now.marks.items (opened_fleet (talk session)) bytes
         (W.contents ends.old.output) (W.contents ends.new.output) pen.old.out.items pen.new.out.items
         (record { old = S.kept ends.old.sink; new = S.kept ends.new.sink }) result) }
 {
@@ -78,7 +88,7 @@ fn hold_open<R: Alloc<A = Global>, I: Read, W: Write, S: ChapterSink>(
         session,
         limited: false,
     };
-    let ended = answer_all(rt, &mut fleet, ends, pen);
+    let ended = answer_all(rt, &mut fleet, ends, pen, refused);
     close(fleet, &mut ends.sink, ended)
 }
 
@@ -88,22 +98,23 @@ fn converse_open<R: Alloc<A = Global>, I: Read, W: Write, S: ChapterSink>(
     session: Session,
     settings: Settings,
     ends: &mut Ends<I, W, S>,
+    refused: &UnroomyCells,
 ) -> Result<bool, TalkFault>
     // Of each call: only a call with a condition may hand on closures.
     requires { 0 ≤ session.world.core.number }
     ensures ended { IfOk result (λ met. IfSome (reader_remaining I.remaining ends.old.input) (λ bytes. (text : List ℕ) × (chapters : List (ChapterView Global))
-        × IsAnswered settings (opened_fleet (talk session)) bytes text chapters met
+        × IsAnswered settings refused.now.marks.items (opened_fleet (talk session)) bytes text chapters met
         × Appends (W.contents ends.old.output) (W.contents ends.new.output) text
         × Adds (S.kept ends.old.sink) (S.kept ends.new.sink) chapters)) }
     ensures broken { IfErr result (λ fault. IsMidway fault → IfSome (reader_remaining I.remaining ends.old.input) (λ bytes. (text : List ℕ)
-        × IsAnsweredInPart settings (opened_fleet (talk session)) bytes text
+        × IsAnsweredInPart settings refused.now.marks.items (opened_fleet (talk session)) bytes text
         × Appends (W.contents ends.old.output) (W.contents ends.new.output) text)) }
     ensures unwritten { result ≡ Err TalkFault.Output → IfSome (reader_remaining I.remaining ends.old.input) (λ bytes. (text : List ℕ)
-        × IsAnsweredInPart settings (opened_fleet (talk session)) bytes text
+        × IsAnsweredInPart settings refused.now.marks.items (opened_fleet (talk session)) bytes text
         × AppendsPrefix (W.contents ends.old.output) (W.contents ends.new.output) text) }
 {
     let mut pen = Pen::new(rt.alloc(), settings);
-    let ended = hold_open(rt, session, ends, &mut pen);
+    let ended = hold_open(rt, session, ends, &mut pen, refused);
     end(&mut pen, &mut ends.output, ended)
 }
 
@@ -112,7 +123,8 @@ fn converse_open<R: Alloc<A = Global>, I: Read, W: Write, S: ChapterSink>(
 /// Returns whether a limit was met.
 ///
 /// Refused in this order, before a line is read: header lines that name another number of robots or of clients than the
-/// chapter has, and what `reopen_world` refuses.
+/// chapter has, what `reopen_world` refuses, and, where posts to cells that are not roomy are refused, an errand to
+/// such a cell in a queue.
 pub fn resume<R: Alloc<A = Global>, I: Read, W: Write, S: ChapterSink>(
     rt: &R,
     ground: Ground,
@@ -129,7 +141,7 @@ pub fn resume<R: Alloc<A = Global>, I: Read, W: Write, S: ChapterSink>(
         × Appends (W.contents ends.old.output) (W.contents ends.new.output) text
         × Adds (S.kept ends.old.sink) (S.kept ends.new.sink) chapters)) }
     // No fleet goes on from the chapter, for this reason.
-    ensures refused { IfErr result (λ fault. IsRefusal fault → IsResumeFault (kit_laws ground.kit) ground.grid (drafted ground.head) (chapter_shown chapter) fault) }
+    ensures refused { IfErr result (λ fault. IsRefusal fault → IsResumeFault settings.roomy (kit_laws ground.kit) ground.grid (drafted ground.head) (chapter_shown chapter) fault) }
     // Then no line was read, and nothing written or kept.
     ensures untouched { IfErr result (λ fault. IsRefusal fault → ends.new ≡ ends.old) }
     // A line could not be read, a chapter not kept, or memory ran out: all that was said until then was written.
@@ -141,14 +153,15 @@ pub fn resume<R: Alloc<A = Global>, I: Read, W: Write, S: ChapterSink>(
         × IsResumptionBegun (record { kit = kit_laws ground.kit; floor = ground.grid; settings = settings; head = drafted ground.head }) (chapter_shown chapter) bytes text
         × AppendsPrefix (W.contents ends.old.output) (W.contents ends.new.output) text) }
 {
-    let opened = reopen(rt.alloc(), ground, &chapter);
+    let opened = reopen(rt.alloc(), ground, &chapter, settings);
     let number = chapter.number;
     // A chapter may take much memory, and is not needed any more.
     drop(chapter);
     match opened {
-        Ok(session) => {
+        Ok((session, door)) => {
             ends.sink.goes_on(number, session.world.clock());
-            match converse_open(rt, session, settings, ends) {
+            ends.sink.opened(&door);
+            match converse_open(rt, session, settings, ends, &door.refused) {
                 Ok(limited) => Ok(limited),
                 Err(fault) => Err(ResumeFault::Talk(fault)),
             }

@@ -19,6 +19,10 @@ post_text c (Err (post_fault.LaneFull order)) = lane_full_line c
 post_text c (Err post_fault.Closed) = codes "post-refused " ++ decimal c ++ codes " 1 closed\n"
 post_text c (Err (post_fault.NumbersSpent order)) = codes "post-refused " ++ decimal c ++ codes " 2 numbers-spent\n"
 
+-- the answer to a post of client c to a cell that is not roomy, where such posts are refused
+abbrev pub no_room_line : ℕ → List ℕ
+no_room_line c = codes "post-refused " ++ decimal c ++ codes " 3 no-room\n"
+
 -- the answer to a shut: a farewell that is made at once stands in the same line
 abbrev pub shut_text : ℕ → Result (Option ℕ) ShutFault → List ℕ
 shut_text robot (Ok None) = codes "shut " ++ decimal robot ++ codes "\n"

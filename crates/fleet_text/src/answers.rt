@@ -3,7 +3,7 @@
 ghost use Rattle.std.specs.Prelude.{◌≡◌, ◌++◌, IfOk, OnOk, codes, decimal, string_bytes};
 ghost use Rattle.std.specs.List.{flat_map};
 ghost use Rattle.fleet_text.specs.Output.{no_client_line, notice_line, posted_line, shut_refused_line, tick_refused_line};
-ghost use Rattle.fleet_text.specs.Answers.{bad_line, chapter_line, chapter_refused_line, ended_line, open_line, open_text, post_text, shut_text, watch_line};
+ghost use Rattle.fleet_text.specs.Answers.{bad_line, chapter_line, chapter_refused_line, ended_line, no_room_line, open_line, open_text, post_text, shut_text, watch_line};
 
 use crate::runs::{
     write_notice, write_numbered, write_posted, write_shut_refused, write_tick_refused,
@@ -62,6 +62,13 @@ pub fn post_text(
             format!(in alloc; "post-refused {client} 2 numbers-spent\n")
         }
     }
+}
+
+/// The answer to a post to a cell that is not roomy, where such posts are refused.
+pub fn no_room_line(alloc: Global, client: u32) -> Result<String, AllocError>
+    ensures { IfOk result (λ line. string_bytes line ≡ no_room_line client) }
+{
+    format!(in alloc; "post-refused {client} 3 no-room\n")
 }
 
 /// The line of a shut that is refused.

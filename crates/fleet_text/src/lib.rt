@@ -17,8 +17,8 @@ mod ticks;
 mod trace;
 
 pub use answers::{
-    bad_line, chapter_line, chapter_refused_line, ended_line, no_client_line, notice_line,
-    open_text, post_text, shut_text, tick_refused_line, watch_line,
+    bad_line, chapter_line, chapter_refused_line, ended_line, no_client_line, no_room_line,
+    notice_line, open_text, post_text, shut_text, tick_refused_line, watch_line,
 };
 pub use input::{InputFault, read_other, read_up_to, read_whole};
 pub use kit::HookKit;

@@ -31,6 +31,9 @@ use test_kit::blocks_of;
 use timed::Timed;
 use tray::{Counts, Tray};
 
+/// A hall of nine cells with a dead end of three.
+const STUB: &[u8] = b"type octile\nheight 3\nwidth 6\nmap\n...@@@\n......\n...@@@\n";
+
 const MAP: &[u8] = b"type octile\nheight 3\nwidth 3\nmap\n...\n.@.\n...\n";
 
 /// The word of the option that begins so, if there is one.
@@ -61,6 +64,7 @@ fn words(alloc: Global, case: Conversation<'_>) -> Result<Live, AllocError> {
         pipes: Vec::new(alloc),
         watch: case.has(b"+ watch"),
         service: false,
+        roomy: case.has(b"+ roomy"),
     })
 }
 
@@ -150,7 +154,7 @@ fn tell_case<R: Alloc<A = Global> + Clock + Threads + Sync + Wait + Copy + Send 
     let ends = ends_of(alloc, rt, hands, case, output, sink)?;
     let words = words(alloc, case)?;
     let texts = TalkTexts {
-        map: MAP,
+        map: if case.has(b"+ map stub") { STUB } else { MAP },
         script: short(&script),
         kept: case.kept(),
     };

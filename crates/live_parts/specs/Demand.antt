@@ -40,3 +40,4 @@ demand_of rights asked.Chapter told = where_granted rights.is_operator (demand.A
 demand_of rights asked.Quit told = where_granted rights.is_operator demand.Quit
 demand_of rights asked.Other told = where_granted rights.is_operator (watch_asked (words_of told))
 demand_of rights asked.Long told = demand.Bad
+demand_of rights (asked.NoRoom client) told = demand.NoRoom client

@@ -27,6 +27,8 @@ pub enum Demand {
     /// Nothing: it is blank, or a comment.
     Nothing,
     Post(u32, Order),
+    /// A post of this client to a cell to which posts are refused.
+    NoRoom(u32),
     /// A client's open errands.
     Open(u32),
     Ask(Wanted),
@@ -103,5 +105,6 @@ pub fn demand_of(rights: Rights, line: Line<'_>) -> Demand
         Asked::Quit => where_granted(rights.is_operator, Demand::Quit),
         Asked::Other => where_granted(rights.is_operator, watch_asked(line.told)),
         Asked::Long => Demand::Bad,
+        Asked::NoRoom(client) => Demand::NoRoom(client),
     }
 }

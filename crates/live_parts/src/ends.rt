@@ -17,6 +17,8 @@ pub struct LiveSettings {
     pub watch: bool,
     /// Whether the fleet goes on where the first conversation has no more lines.
     pub service: bool,
+    /// Whether posts to cells that are not roomy for the fleet's robots are refused.
+    pub roomy: bool,
     /// The version of the program.
     pub version: &'static str,
 }

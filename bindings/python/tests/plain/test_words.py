@@ -83,7 +83,7 @@ class HeaderTest(unittest.TestCase):
         answers = {"done", "no-memory", "already-open", "no-notice", "idle", "has-bridge", "no-bridge"}
         words = {code.word for code in names.Code} - answers
         words |= {verdict.word for verdict in names.Verdict} - {"accepted", "closed"}
-        self.assertEqual(words | {"lane-full", "numbers-spent"}, set(names.SENTENCES))
+        self.assertEqual(words | {"lane-full", "numbers-spent", "no-room"}, set(names.SENTENCES))
 
     def test_sentences_are_the_librarys(self):
         text = (TOP / "crates" / "fleet_c" / "src" / "sentences.rt").read_text()

@@ -16,6 +16,13 @@ pub(crate) const SCRIPT: Argument<'static> = Argument {
     help: "Header lines of a script, which may also begin the conversation",
 };
 
+/// To refuse posts to cells that are not roomy.
+pub(crate) const ROOMY: Argument<'static> = Argument {
+    name: "roomy",
+    kind: Kind::Flag,
+    help: "Refuse posts to cells that are not roomy: then no errand blocks the fleet",
+};
+
 /// A folder.
 pub(crate) const TRACES: Argument<'static> = Argument {
     name: "traces",

@@ -4,7 +4,7 @@ ghost use Rattle.std.specs.Prelude.{◌≡◌, IfOk};
 ghost use Rattle.clap.specs.Words.{found_of, rows_of};
 ghost use Rattle.fleet_lib.specs.Asked.{IsLive};
 
-use crate::words::arguments::{MAP, RESUME, RESUME_ONLY, SCRIPT, TRACES};
+use crate::words::arguments::{MAP, RESUME, RESUME_ONLY, ROOMY, SCRIPT, TRACES};
 use clap::ArgMatches;
 use command_words::{Argument, Kind, Word, has_flag, some_word_for, some_words_for, word_for};
 use std::alloc::{AllocError, Global};
@@ -42,9 +42,11 @@ pub struct Live {
     pub watch: bool,
     /// Whether the fleet goes on without a first conversation.
     pub service: bool,
+    /// Whether posts to cells that are not roomy are refused.
+    pub roomy: bool,
 }
 
-/// `live [--robots CELLS] [--clients N] [--period TIME] [--tickers N] [--client IN,OUT].. [--watch] [--service]
+/// `live [--robots CELLS] [--clients N] [--period TIME] [--tickers N] [--client IN,OUT].. [--watch] [--service] [--roomy]
 /// [--traces DIR] [--resume] [--resume-only] [--keep-every TIME] [--chapter-bytes N] [--metrics FILE] MAP [SCRIPT]`.
 pub(crate) const LIVE: Word<'static> = Word {
     name: "live",
@@ -86,6 +88,7 @@ pub(crate) const LIVE: Word<'static> = Word {
             kind: Kind::Flag,
             help: "Go on where standard input ends: only the line `quit` ends the fleet",
         },
+        ROOMY,
         TRACES,
         RESUME,
         RESUME_ONLY,
@@ -140,5 +143,6 @@ pub(crate) fn live_in(alloc: Global, matches: &ArgMatches<'_>) -> Result<Live, A
         pipes,
         watch: has_flag(matches, "watch"),
         service: has_flag(matches, "service"),
+        roomy: has_flag(matches, "roomy"),
     })
 }

@@ -4,7 +4,7 @@ ghost use Rattle.std.specs.Prelude.{◌≡◌, IfOk};
 ghost use Rattle.clap.specs.Words.{found_of, rows_of};
 ghost use Rattle.fleet_lib.specs.Asked.{IsTalk};
 
-use crate::words::arguments::{MAP, RESUME, RESUME_ONLY, SCRIPT, TRACES};
+use crate::words::arguments::{MAP, RESUME, RESUME_ONLY, ROOMY, SCRIPT, TRACES};
 use clap::ArgMatches;
 use command_words::{Argument, Kind, Word, has_flag, some_word_for, word_for};
 use std::alloc::{AllocError, Global};
@@ -25,9 +25,11 @@ pub struct Talk {
     pub marks: bool,
     /// Whether full chapters are handed out unasked.
     pub roll: bool,
+    /// Whether posts to cells that are not roomy are refused.
+    pub roomy: bool,
 }
 
-/// `talk [--marks] [--roll] [--traces DIR] [--resume] [--resume-only] MAP [SCRIPT]`.
+/// `talk [--marks] [--roll] [--roomy] [--traces DIR] [--resume] [--resume-only] MAP [SCRIPT]`.
 pub(crate) const TALK: Word<'static> = Word {
     name: "talk",
     about: "Talks to a fleet: answers each line of standard input as soon as it is read",
@@ -43,6 +45,7 @@ pub(crate) const TALK: Word<'static> = Word {
             kind: Kind::Flag,
             help: "Begin the next chapter where one is full",
         },
+        ROOMY,
         TRACES,
         RESUME,
         RESUME_ONLY,
@@ -66,5 +69,6 @@ pub(crate) fn talk_in(alloc: Global, matches: &ArgMatches<'_>) -> Result<Talk, A
         resume_only: has_flag(matches, "resume-only"),
         marks: has_flag(matches, "marks"),
         roll: has_flag(matches, "roll"),
+        roomy: has_flag(matches, "roomy"),
     })
 }

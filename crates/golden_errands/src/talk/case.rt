@@ -19,6 +19,7 @@ pub(crate) struct Case<'a> {
     pub(crate) map: &'a [u8],
     pub(crate) marks: bool,
     pub(crate) roll: bool,
+    pub(crate) roomy: bool,
     pub(crate) has_trials: bool,
     pub(crate) lines: &'a [u8],
 }
@@ -43,6 +44,7 @@ impl<'a> Case<'a> {
             map,
             marks: talk.has(b"+ marks"),
             roll: talk.has(b"+ roll"),
+            roomy: talk.has(b"+ roomy"),
             has_trials: talk.has(b"+ trials"),
             lines,
         }

@@ -102,6 +102,7 @@ pub(crate) fn outcome_of<R: Alloc<A = Global>>(
     let settings = Settings {
         marks: case.marks,
         roll: case.roll,
+        roomy: case.roomy,
     };
     let mut error = Sink::new(alloc, Room::ALL);
     let status = run_talk(rt, texts, settings, &mut ends, &mut error);

@@ -1,6 +1,6 @@
 use Rattle.fleet_core.specs.Hooks.{laws_of}
 use Rattle.fleet_office.specs.Views.{rings_of, world_at}
-use Rattle.fleet_live.proofs.live.keep_live.Given as goal
+use Rattle.fleet_live.proofs.live.keep_ground.Given as goal
 
 abbrev pub ghosts-keep_fleet-N-Ledger : goal.ghosts-keep_fleet-N-Ledger
 ghosts-keep_fleet-N-Ledger g a = record { name = a.opening.desk.ledger; parts = a.opening.desk.parts }

@@ -13,7 +13,7 @@ use Rattle.fleet_talk.specs.Conversation.{clients_in, laws_in, limits_in}
 use Rattle.fleet_talk.specs.Heading.{drafted}
 use Rattle.fleet_talk.proofs.Starting.{unwrapped}
 use Rattle.fleet_live.proofs.Refusing.{in-ground, named-of}
-use Rattle.fleet_live.proofs.live.keep_live.Goals as goal
+use Rattle.fleet_live.proofs.live.keep_ground.Goals as goal
 
 pub returns-in-Ok-clause-refused : goal.returns-in-Ok-clause-refused
 returns-in-Ok-clause-refused g c starts is why named same =
