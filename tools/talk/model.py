@@ -22,9 +22,11 @@ DEFAULTS = {"life": 2 ** 40, "orders": 2 ** 62, "clock": 2 ** 48, "chapters": mo
 HEADERS = {"robots", "clients", "ties", "turns"} | set(model.LIMIT_DEFAULTS)
 
 
-def look_line(w):
-    """The line of a look at a world."""
-    eldest, within = w.eldest(), w.idle_within()
+def look_line(w, unroomy=None):
+    """The line of a look at a world on whose map these cells are not roomy for its robots; without them, of a map with bridges no limit is told."""
+    eldest, within = w.eldest(), None
+    if w.is_bridgeless() if unroomy is None else not any(cell in unroomy for queue in w.queues for _, _, cell in queue):
+        within = max(map(len, w.queues)) * len(w.place) * max(1, w.grid.floor_count() - 1)
     state = "idle" if eldest is None else f"busy eldest {eldest}"
     told = f"look tick {w.ticks} chapter {w.number} entries {len(w.entries)} {state}"
     if within is not None:
@@ -274,8 +276,8 @@ class Talk:
     def __init__(self, grid, head, marks, roll, roomy):
         self.grid, self.head, self.marks, self.roll, self.roomy = grid, head, marks, roll, roomy
         self.world, self.out, self.limited = None, [], False
-        # the cells to which posts are refused, and what is said of those that are not roomy
-        self.refused, self.warning = set(), ""
+        # the cells that are not roomy, those to which posts are refused, and what is said of the former
+        self.unroomy, self.refused, self.warning = set(), set(), ""
 
     def resume(self, name, number, text):
         """The fleet goes on from a chapter, and is open."""
@@ -293,11 +295,11 @@ class Talk:
     def find_door(self):
         """Finds the cells that are not roomy for the robots of the open fleet."""
         robots = len(self.world.place)
-        unroomy = unroomy_cells(self.grid, robots)
+        self.unroomy = unroomy_cells(self.grid, robots)
         if self.roomy:
-            self.refused = unroomy
-        elif unroomy:
-            told = f"{len(unroomy)} of {self.grid.floor_count()} cells are not roomy for {robots} robots"
+            self.refused = self.unroomy
+        elif self.unroomy:
+            told = f"{len(self.unroomy)} of {self.grid.floor_count()} cells are not roomy for {robots} robots"
             self.warning = f"fleet: {told}: errands there may block the fleet for ever\n"
 
     def say(self, mark, lines):
@@ -355,7 +357,7 @@ class Talk:
             for event in what:
                 self.event(mark, event)
         elif kind == "look":
-            self.say(mark, [look_line(self.world)])
+            self.say(mark, [look_line(self.world, self.unroomy)])
         elif kind == "open":
             self.say(mark, open_lines(self.world, what))
         elif kind == "chapter":

@@ -16,6 +16,7 @@ use Rattle.fleet_core.specs.declared.faults.OpenFault.{OpenFault}
 use Rattle.fleet_history.specs.History.{robots}
 use Rattle.fleet_history.proofs.Legal.{legal-opening}
 use Rattle.fleet_reopen.specs.declared.fault.ReopenFault.TheVariants as reopen_fault
+use Rattle.fleet_bridge.specs.Roominess.{AreRoomyFor}
 use Rattle.fleet_grid.specs.Floor.{Floor}
 use Rattle.fleet_talk.specs.declared.door.Door.{Door}
 use Rattle.fleet_talk.specs.declared.door.UnroomyErrand.{UnroomyErrand}
@@ -36,6 +37,10 @@ pub ok-by : {X E : Type 0} (r : Result X E) (P Q : X → Type 0) → ((x : X) �
 ok-by (Ok x) P Q f p = f x p
 ok-by (Err e) P Q f p = tt
 
+pub ok-by2 : {X E : Type 0} (r : Result X E) (P Q S : X → Type 0) → ((x : X) → P x → Q x → S x) → IfOk r P → IfOk r Q → IfOk r S
+ok-by2 (Ok x) P Q S f p q = f x p q
+ok-by2 (Err e) P Q S f p q = tt
+
 -- a fault is the same, whatever there would have been without it
 abbrev pub failed : {X : Type 0} → OpenFault → Result X OpenFault
 failed f = Err f
@@ -53,6 +58,12 @@ pub door-for : (roomy : Bool) (m : Floor) (n k : ℕ) (found : Result Door Alloc
 door-for roomy m n k found door is counted few h =
     let same : n ≡ k = counted ∙ min-eq_left (omega (arith, few)) in
     subst (λ (x : ℕ). AreRefused roomy m x door.refused.marks.items) same (subst (λ (r : Result Door AllocError). IfOk r (λ d. AreRefused roomy m n d.refused.marks.items)) is h)
+
+-- what is known of the cells of the map on which it was found
+pub known-for : (m n : Floor) (found : Result Door AllocError) (door : Door) → found ≡ Ok door → n ≡ m → IfOk found (λ d. AreRoomyFor m d.roominess.items) → AreRoomyFor n door.roominess.items
+known-for m n found door is same h =
+    let known = subst (λ (r : Result Door AllocError). IfOk r (λ d. AreRoomyFor m d.roominess.items)) is h in
+    subst (λ (x : Floor). AreRoomyFor x door.roominess.items) (sym same) known
 
 -- ---- a fleet that goes on
 

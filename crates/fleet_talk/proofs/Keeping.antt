@@ -2,6 +2,7 @@
 use Rattle.std.proofs.Common.{◌≡◌, ◌∙◌, ℕ, List, [], ◌∷◌, ◌++◌, Option, Some, None, refl, sym, ap, subst, append_assoc, append-nil}
 use Rattle.std.specs.Prelude.{Result, OnOk}
 use Rattle.std.proofs.lemmas.Result.{on_ok_weaker}
+use Rattle.fleet_bridge.specs.Roominess.{AreRoomyFor}
 use Rattle.fleet_grid.specs.Floor.{Floor}
 use Rattle.fleet_book.specs.declared.event.Event.{Event}
 use Rattle.fleet_book.specs.declared.event.Event.TheVariants.{Post, Take, Tick, Give, Collect, Shut}
@@ -34,6 +35,14 @@ adds-then (Some x) (Some y) (Some z) xs ys p q = q ∙ (ap (λ l. l ++ ys) p ∙
 module _ {A : Type 0} where
   pub sound-is : (m : Floor) (h g : History A) → g ≡ h → IsLegal m h → AdvancesIfRoomy m h → IsSound m g
   sound-is m h g same legal advancing = subst (IsSound m) (sym same) (record { legal = legal; advancing = advancing })
+
+  turned-floor : (b e : Beginning A) (cs : List (ChapterView A)) → AreTurned b cs e → e.floor ≡ b.floor
+  turned-floor b e [] same = ap (λ (x : Beginning A). x.floor) same
+  turned-floor b e (c ∷ cs) (is, rest) = turned-floor (next_beginning b c.history) e cs rest
+
+  -- the map stays, so what is known of its cells is known still
+  pub known-still : (before after : Option (List (ChapterView A))) (s t : Talk A) (most : List ℕ) → KeepsTurned before after s t → AreRoomyFor s.world.floor most → AreRoomyFor t.world.floor most
+  known-still before after s t most (chapters, turned, adds) known = subst (λ (m : Floor). AreRoomyFor m most) (sym (turned-floor (beginning s.world) (beginning t.world) chapters turned)) known
 
   turned-then : (b m e : Beginning A) (xs ys : List (ChapterView A)) → AreTurned b xs m → AreTurned m ys e → AreTurned b (xs ++ ys) e
   turned-then b m e [] ys same more = subst (λ (x : Beginning A). AreTurned x ys e) same more

@@ -1,9 +1,8 @@
 -- How a fleet stands, as a look prints it.
 use Rattle.std.specs.Prelude.{◌≡◌, ◌↔◌, ℕ, List, length, Option, IsSome, IfSome, MatchOption}
 use Rattle.fleet_bound.specs.Idle.{idle_ticks, longest_after}
+use Rattle.fleet_bound.specs.Roomy.{AreOpenRoomy}
 use Rattle.fleet_grid.specs.Counts.{floor_count}
-use Rattle.fleet_grid.specs.Floor.{IsNeighbour}
-use Rattle.fleet_grid.specs.Walk.{IsBridgeless}
 use Rattle.fleet_history.specs.History.{clock, robots, place}
 use Rattle.fleet_pibt.specs.Eldest.{IsEldest}
 use Rattle.fleet_planner.specs.Aimed.{IsIdle}
@@ -21,6 +20,6 @@ pub record IsLook {A : Type 0} (w : World A) (text : List ℕ) : Type 0 where
   pub eldest : Option ℕ
   pub oldest : MatchOption eldest (IsIdle w.history) (λ e. IsEldest (waits w.history) e)
   pub within : Option ℕ
-  pub told : IsSome within ↔ IsBridgeless (IsNeighbour w.floor)
+  pub told : IsSome within ↔ AreOpenRoomy w.floor w.history
   pub ticks : IfSome within (λ ticks. ticks ≡ idle_ticks (longest_after w.history) (robots w.history) (floor_count w.floor))
   pub is : text ≡ look_line (standing_of w eldest within) (place w.history)

@@ -6,6 +6,7 @@ ghost use Rattle.std.specs.Io.KnownBytes.{Appends};
 ghost use Rattle.std.specs.declared.alloc.Global.{Global};
 ghost use Rattle.fleet_grid.specs.Floor.{Floor};
 ghost use Rattle.fleet_history.specs.History.{history_of};
+ghost use Rattle.fleet_bridge.specs.Roominess.{AreRoomyFor};
 ghost use Rattle.fleet_text.specs.Kit.{kit_laws};
 ghost use Rattle.fleet_text.specs.Transfer.{AppendsPrefix};
 ghost use Rattle.fleet_core.specs.Hooks.{AreOrderly};
@@ -51,6 +52,7 @@ fn open(alloc: Global, grid: Grid, kit: HookKit, head: Head) -> Result<Session, 
     ensures orderly { (starts : List ℕ) → (drafted head).starts ≡ Some starts → OnOk result (AreOrderly (laws_in (kit_laws kit) (drafted head) starts)) }
     ensures ok { (starts : List ℕ) → (drafted head).starts ≡ Some starts → IfOk result (λ s.
         talk s ≡ opened_talk grid starts (clients_in (drafted head)) (limits_in (drafted head)) (laws_in (kit_laws kit) (drafted head) starts)) }
+    ensures floor { IfOk result (λ s. s.world.core.floor ≡ grid) }
 {
     let Head {
         starts,
@@ -89,6 +91,7 @@ fn open_with_door(
         talk r.0 ≡ opened_talk ground.grid starts (clients_in (drafted ground.head)) (limits_in (drafted ground.head)) (laws_in (kit_laws ground.kit) (drafted ground.head) starts)) }
     ensures door { (starts : List ℕ) → (drafted ground.head).starts ≡ Some starts → IfOk result (λ r.
         AreRefused settings.roomy ground.grid (length starts) r.1.refused.marks.items) }
+    ensures known { IfOk result (λ r. AreRoomyFor r.0.world.core.floor r.1.roominess.items) }
 {
     let Ground { grid, kit, head } = ground;
     let robots = counted(robots_named(&head).unwrap_or(0));
@@ -200,10 +203,7 @@ fn hold<R: Alloc<A = Global>, I: Read, W: Write, S: ChapterSink>(
                     session,
                     limited: false,
                 };
-                let entrance = Entrance {
-                    first,
-                    refused: &door.refused,
-                };
+                let entrance = Entrance { first, door: &door };
                 let ended = go_on(rt, &mut fleet, ends, &mut bytes, pen, entrance);
                 close(fleet, &mut ends.sink, ended)
             }

@@ -1,6 +1,7 @@
 //! Does once what a line asks of an open fleet. Nothing here reads, writes or keeps chapters.
 
 ghost use Rattle.std.specs.Prelude.{◌≡◌, ◌≤◌, ℕ, List, OnOk, OnErr, IfOk};
+ghost use Rattle.fleet_bridge.specs.Roominess.{AreRoomyFor};
 ghost use Rattle.fleet_talk.specs.Act.{act_asked, show, times_asked, turn};
 ghost use Rattle.fleet_talk.specs.Acts.{Does};
 ghost use Rattle.fleet_talk.specs.Lines.{line_shown};
@@ -29,12 +30,13 @@ fn show(
     fleet: &OpenFleet,
     pen: &mut Pen,
     mark: Option<&[u8]>,
+    roominess: &[u32],
 ) -> Result<(), AllocError>
-    requires { 0 ≤ fleet.now.session.world.core.number }
+    requires { AreRoomyFor fleet.now.session.world.core.floor roominess.now }
     ensures ok { OnOk result ((text : List ℕ) × Does pen.old.settings.roll (fleet_of fleet.now) (show (under mark.entry)) text (fleet_of fleet.now) × IsAdded pen.old pen.new text) }
     ensures err { OnErr result (IsKept pen.old pen.new) }
 {
-    let line = look_text(alloc, &fleet.session.world)?;
+    let line = look_text(alloc, &fleet.session.world, roominess)?;
     pen.say(alloc, mark, line.as_str())
 }
 
@@ -113,8 +115,9 @@ pub(crate) fn hear<R: Alloc<A = Global>>(
     fleet: &mut OpenFleet,
     pen: &mut Pen,
     line: Line<'_>,
+    roominess: &[u32],
 ) -> Result<Option<Chapter>, AllocError>
-    requires { 0 ≤ fleet.old.session.world.core.number }
+    requires { AreRoomyFor fleet.old.session.world.core.floor roominess.now }
     ensures ok { IfOk result (λ handed. Comes pen.old.settings.roll (fleet_of fleet.old) (act_asked (line_shown line.entry) line.entry.asked) handed pen.old pen.new (fleet_of fleet.new)) }
     ensures err { OnErr result (IsKept pen.old pen.new) }
 {
@@ -123,7 +126,7 @@ pub(crate) fn hear<R: Alloc<A = Global>>(
         Asked::Events(more) => play_here(rt, fleet, pen, line.mark, more.event),
         Asked::Chapter => turn(rt.alloc(), fleet, pen, line.mark),
         Asked::Look => {
-            show(rt.alloc(), fleet, pen, line.mark)?;
+            show(rt.alloc(), fleet, pen, line.mark, roominess)?;
             Ok(None)
         }
         Asked::Open(client) => {

@@ -2,6 +2,7 @@
 
 ghost use Rattle.std.specs.Prelude.{◌≡◌, Bool, List, None, true, count_by, min, IfOk, IfSome, string_bytes};
 ghost use Rattle.std.specs.List.{position};
+ghost use Rattle.fleet_bridge.specs.Roominess.{AreRoomyFor};
 ghost use Rattle.fleet_grid.specs.Counts.{floor_count};
 ghost use Rattle.fleet_roomy.specs.Unroomy.{AreUnroomy, has};
 ghost use Rattle.fleet_talk.specs.Door.{AreRefused, event_let_in, let_in, line_let_in, order_let_in, refused_post_text, unroomy_line};
@@ -10,9 +11,10 @@ ghost use Rattle.fleet_talk.specs.Resumed.{NoneWaits, Waits};
 
 use crate::ask::{Asked, Line, line_of};
 use fleet_book::{Event, Order};
+use fleet_bridge::roominess;
 use fleet_core::{OpenErrand, World};
 use fleet_grid::Grid;
-use fleet_roomy::{UnroomyCells, unroomy_cells};
+use fleet_roomy::{UnroomyCells, unroomy_by};
 use fleet_script::Repeat;
 use fleet_text::{no_client_line, no_room_line};
 use std::alloc::{AllocError, Global};
@@ -31,6 +33,8 @@ pub struct Door {
     pub roomy: bool,
     /// To which cells posts are refused.
     pub refused: UnroomyCells,
+    /// For how many robots each cell is roomy, as `fleet_bridge::roominess` says it.
+    pub roominess: Vec<u32>,
     /// How many floor cells are not roomy, whether or not posts to them are refused.
     pub unroomy: usize,
     pub floor: u32,
@@ -49,12 +53,14 @@ pub struct UnroomyErrand {
 /// else no post. `AllocError` if memory runs out.
 pub fn door_for(alloc: Global, roomy: bool, grid: &Grid, robots: u32) -> Result<Door, AllocError>
     ensures refused { IfOk result (λ door. AreRefused roomy grid.now robots door.refused.marks.items) }
+    ensures roominess { IfOk result (λ door. AreRoomyFor grid.now door.roominess.items) }
     ensures unroomy { IfOk result (λ door. (cells : List Bool) × AreUnroomy grid.now robots cells × (door.unroomy ≡ count_by (λ is_one. is_one) cells)) }
     ensures floor { IfOk result (λ door. door.floor ≡ floor_count grid.now) }
     ensures robots { IfOk result (λ door. door.robots ≡ robots) }
     ensures roomy { IfOk result (λ door. door.roomy ≡ roomy) }
 {
-    let cells = unroomy_cells(alloc, grid, robots)?;
+    let roominess = roominess(alloc, grid)?;
+    let cells = unroomy_by(alloc, grid, &roominess, robots)?;
     let unroomy = cells.count();
     Ok(Door {
         roomy,
@@ -63,6 +69,7 @@ pub fn door_for(alloc: Global, roomy: bool, grid: &Grid, robots: u32) -> Result<
         } else {
             UnroomyCells::none(alloc)
         },
+        roominess,
         unroomy,
         floor: grid.floor_count(),
         robots,

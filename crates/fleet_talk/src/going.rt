@@ -2,6 +2,7 @@
 
 ghost use Rattle.std.specs.Prelude.{◌≡◌, ◌≤◌, ◌∷◌, ℕ, List, OnOk, OnErr, IfErr, IfSome};
 ghost use Rattle.std.specs.Io.Buffered.{reader_remaining};
+ghost use Rattle.fleet_bridge.specs.Roominess.{AreRoomyFor};
 ghost use Rattle.fleet_world.specs.Keeps.{talk};
 ghost use Rattle.fleet_talk.specs.Act.{act_asked, acts_from, acts_on};
 ghost use Rattle.fleet_talk.specs.Acts.{Does, Talks};
@@ -16,7 +17,7 @@ ghost use Rattle.fleet_talk.specs.Talked.{TalksUntil};
 
 use crate::ask::{Line, is_quit};
 use crate::doing::{hear, times};
-use crate::door::line_let_in;
+use crate::door::{Door, line_let_in};
 use crate::ends::{ChapterSink, Ends};
 use crate::fault::TalkFault;
 use crate::open_fleet::OpenFleet;
@@ -24,7 +25,6 @@ use crate::pen::Pen;
 use crate::plays::turned;
 use crate::reading::next_line;
 use crate::writing::{write_if_due, write_if_full};
-use fleet_roomy::UnroomyCells;
 use std::alloc::{Alloc, Global};
 use std::io::{Read, Write};
 
@@ -35,14 +35,15 @@ fn do_once<R: Alloc<A = Global>, S: ChapterSink>(
     sink: &mut S,
     pen: &mut Pen,
     line: Line<'_>,
+    roominess: &[u32],
 ) -> Result<(), TalkFault>
-    requires { 0 ≤ fleet.old.session.world.core.number }
+    requires { AreRoomyFor fleet.old.session.world.core.floor roominess.now }
     ensures ok { OnOk result ((text : List ℕ) × Does pen.old.settings.roll (fleet_of fleet.old) (act_asked (line_shown line.entry) line.entry.asked) text (fleet_of fleet.new) × IsAdded pen.old pen.new text) }
     ensures kept { OnOk result (KeepsTurned (S.kept sink.old) (S.kept sink.new) (talk fleet.old.session) (talk fleet.new.session)) }
     ensures err { OnErr result (IsKept pen.old pen.new) }
     ensures midway { IfErr result (λ fault. IsMidway fault) }
 {
-    match hear(rt, fleet, pen, line)? {
+    match hear(rt, fleet, pen, line, roominess)? {
         Some(chapter) => {
             sink.keep(&chapter)?;
             Ok(turned(rt, fleet, pen, line, &chapter)?)
@@ -58,8 +59,9 @@ fn answer<R: Alloc<A = Global>, I, W: Write, S: ChapterSink>(
     ends: &mut Ends<I, W, S>,
     pen: &mut Pen,
     line: Line<'_>,
+    roominess: &[u32],
 ) -> Result<(), TalkFault>
-    requires { 0 ≤ fleet.old.session.world.core.number }
+    requires { AreRoomyFor fleet.old.session.world.core.floor roominess.now }
     ensures talks { OnOk result ((text : List ℕ) × Talks pen.old.settings.roll (fleet_of fleet.old) (acts_on pen.old.settings (line_shown line.entry)) text (fleet_of fleet.new)
         × Says (W.contents ends.old.output) (W.contents ends.new.output) pen.old.out.items pen.new.out.items text) }
     ensures kept { OnOk result (KeepsTurned (S.kept ends.old.sink) (S.kept ends.new.sink) (talk fleet.old.session) (talk fleet.new.session)) }
@@ -69,17 +71,17 @@ fn answer<R: Alloc<A = Global>, I, W: Write, S: ChapterSink>(
     ensures input { ends.new.input ≡ ends.old.input }
 {
     for _ in 0..times(line.asked) {
-        do_once(rt, fleet, &mut ends.sink, pen, line)?;
+        do_once(rt, fleet, &mut ends.sink, pen, line, roominess)?;
         write_if_full(pen, &mut ends.output)?;
     }
     Ok(pen.say_end(rt.alloc(), line)?)
 }
 
-/// Where an open fleet is talked to: from the line of this number on, with posts to these cells refused.
+/// Where an open fleet is talked to: from the line of this number on, through this door.
 #[derive(Clone, Copy)]
 pub(crate) struct Entrance<'a> {
     pub(crate) first: u64,
-    pub(crate) refused: &'a UnroomyCells,
+    pub(crate) door: &'a Door,
 }
 
 /// Answers the line that was just read, which has the entrance's number, and all lines that follow.
@@ -91,21 +93,21 @@ pub(crate) fn go_on<R: Alloc<A = Global>, I: Read, W: Write, S: ChapterSink>(
     pen: &mut Pen,
     entrance: Entrance<'_>,
 ) -> Result<(), TalkFault>
-    requires { 0 ≤ fleet.old.session.world.core.number }
+    requires { AreRoomyFor fleet.old.session.world.core.floor entrance.door.now.roominess.items }
     ensures talks { OnOk result (IfSome (reader_remaining I.remaining ends.old.input) (λ xs. (text : List ℕ)
-        × Talks pen.old.settings.roll (fleet_of fleet.old) (acts_from pen.old.settings entrance.entry.refused.now.marks.items entrance.entry.first (bytes.old.items ∷ heard_lines xs)) text (fleet_of fleet.new)
+        × Talks pen.old.settings.roll (fleet_of fleet.old) (acts_from pen.old.settings entrance.entry.door.now.refused.marks.items entrance.entry.first (bytes.old.items ∷ heard_lines xs)) text (fleet_of fleet.new)
         × Says (W.contents ends.old.output) (W.contents ends.new.output) pen.old.out.items pen.new.out.items text)) }
     ensures kept { OnOk result (KeepsTurned (S.kept ends.old.sink) (S.kept ends.new.sink) (talk fleet.old.session) (talk fleet.new.session)) }
     ensures broken { IfErr result (λ fault. IfSome (reader_remaining I.remaining ends.old.input) (λ xs.
-        TalksUntil fault pen.old.settings.roll (fleet_of fleet.old) (acts_from pen.old.settings entrance.entry.refused.now.marks.items entrance.entry.first (bytes.old.items ∷ heard_lines xs))
+        TalksUntil fault pen.old.settings.roll (fleet_of fleet.old) (acts_from pen.old.settings entrance.entry.door.now.refused.marks.items entrance.entry.first (bytes.old.items ∷ heard_lines xs))
         (W.contents ends.old.output) (W.contents ends.new.output) pen.old.out.items pen.new.out.items)) }
 {
     for number in entrance.first..u64::MAX {
-        let line = line_let_in(entrance.refused, number, bytes);
+        let line = line_let_in(&entrance.door.refused, number, bytes);
         if is_quit(line.asked) {
             return Ok(());
         }
-        answer(rt, fleet, ends, pen, line)?;
+        answer(rt, fleet, ends, pen, line, &entrance.door.roominess)?;
         write_if_due(ends, pen)?;
         if !next_line(&mut ends.input, pen, bytes)? {
             return Ok(());

@@ -2,6 +2,7 @@
 
 ghost use Rattle.std.specs.Prelude.{◌≡◌, ◌≤◌, false, None, Ok, IfOk, IfErr, OnOk, length, vec_len, if◌then◌else◌, unwrap_or};
 ghost use Rattle.std.specs.Option.{option_map};
+ghost use Rattle.fleet_bridge.specs.Roominess.{AreRoomyFor};
 ghost use Rattle.fleet_text.specs.Kit.{kit_laws};
 ghost use Rattle.fleet_core.specs.Hooks.{laws_of};
 ghost use Rattle.fleet_world.specs.Keeps.{talk};
@@ -172,6 +173,7 @@ pub fn world_with_door(
     ensures ok { IfOk result (λ r. r.0.core ≡ world_after (kit_laws ground.kit) ground.grid (drafted ground.head) (chapter_shown chapter.now)) }
     ensures may { OnOk result (MayResume (kit_laws ground.kit) ground.grid (drafted ground.head) (chapter_shown chapter.now)) }
     ensures door { IfOk result (λ r. LetsIn (record { kit = kit_laws ground.kit; floor = ground.grid; settings = settings; head = drafted ground.head }) (chapter_shown chapter.now) r.1.refused.marks.items) }
+    ensures known { IfOk result (λ r. AreRoomyFor r.0.core.floor r.1.roominess.items) }
     ensures fault { IfErr result (λ fault. IsResumeFault settings.roomy (kit_laws ground.kit) ground.grid (drafted ground.head) (chapter_shown chapter.now) fault) }
 {
     let door = door_for(
@@ -221,6 +223,7 @@ pub(crate) fn reopen(
     ensures ok { IfOk result (λ r. talk r.0 ≡ resumed (kit_laws ground.kit) ground.grid (drafted ground.head) (chapter_shown chapter.now)) }
     ensures may { OnOk result (MayResume (kit_laws ground.kit) ground.grid (drafted ground.head) (chapter_shown chapter.now)) }
     ensures door { IfOk result (λ r. LetsIn (record { kit = kit_laws ground.kit; floor = ground.grid; settings = settings; head = drafted ground.head }) (chapter_shown chapter.now) r.1.refused.marks.items) }
+    ensures known { IfOk result (λ r. AreRoomyFor r.0.world.core.floor r.1.roominess.items) }
     ensures fault { IfErr result (λ fault. IsResumeFault settings.roomy (kit_laws ground.kit) ground.grid (drafted ground.head) (chapter_shown chapter.now) fault) }
 {
     match world_with_door(alloc, ground, chapter, settings) {

@@ -4,6 +4,7 @@ ghost use Rattle.std.specs.Prelude.{◌≡◌, ◌≤◌, ℕ, List, Err, OnOk, 
 ghost use Rattle.std.specs.Io.Buffered.{reader_buffer, reader_remaining};
 ghost use Rattle.std.specs.Io.KnownBytes.{Appends};
 ghost use Rattle.std.specs.declared.alloc.Global.{Global};
+ghost use Rattle.fleet_bridge.specs.Roominess.{AreRoomyFor};
 ghost use Rattle.fleet_text.specs.Kit.{kit_laws};
 ghost use Rattle.fleet_text.specs.Transfer.{AppendsPrefix};
 ghost use Rattle.fleet_world.specs.Keeps.{talk};
@@ -21,6 +22,7 @@ ghost use Rattle.fleet_talk.specs.Says.{Says};
 ghost use Rattle.fleet_talk.specs.Talked.{TalksUntil};
 
 use crate::conversation::{close, end};
+use crate::door::Door;
 use crate::ends::{ChapterSink, Ends, Settings};
 use crate::fault::TalkFault;
 use crate::going::{Entrance, go_on};
@@ -30,7 +32,6 @@ use crate::pen::Pen;
 use crate::reading::next_line;
 use crate::resuming::{ResumeFault, reopen};
 use fleet_history::Chapter;
-use fleet_roomy::UnroomyCells;
 use fleet_world::Session;
 use std::alloc::{Alloc, Global};
 use std::io::{Read, Write};
@@ -41,16 +42,16 @@ fn answer_all<R: Alloc<A = Global>, I: Read, W: Write, S: ChapterSink>(
     fleet: &mut OpenFleet,
     ends: &mut Ends<I, W, S>,
     pen: &mut Pen,
-    refused: &UnroomyCells,
+    door: &Door,
 ) -> Result<(), TalkFault>
-    requires number { 0 ≤ fleet.old.session.world.core.number }
+    requires known { AreRoomyFor fleet.old.session.world.core.floor door.now.roominess.items }
     requires done { IsDone (reader_buffer ends.old.input) pen.old.out.items }
     ensures talks { OnOk result (IfSome (reader_remaining I.remaining ends.old.input) (λ xs. (text : List ℕ)
-        × Talks pen.old.settings.roll (fleet_of fleet.old) (acts_from pen.old.settings refused.now.marks.items 1 (heard_lines xs)) text (fleet_of fleet.new)
+        × Talks pen.old.settings.roll (fleet_of fleet.old) (acts_from pen.old.settings door.now.refused.marks.items 1 (heard_lines xs)) text (fleet_of fleet.new)
         × Says (W.contents ends.old.output) (W.contents ends.new.output) pen.old.out.items pen.new.out.items text)) }
     ensures kept { OnOk result (KeepsTurned (S.kept ends.old.sink) (S.kept ends.new.sink) (talk fleet.old.session) (talk fleet.new.session)) }
     ensures broken { IfErr result (λ fault. IfSome (reader_remaining I.remaining ends.old.input) (λ xs.
-        TalksUntil fault pen.old.settings.roll (fleet_of fleet.old) (acts_from pen.old.settings refused.now.marks.items 1 (heard_lines xs))
+        TalksUntil fault pen.old.settings.roll (fleet_of fleet.old) (acts_from pen.old.settings door.now.refused.marks.items 1 (heard_lines xs))
         (W.contents ends.old.output) (W.contents ends.new.output) pen.old.out.items pen.new.out.items)) }
 {
     let mut bytes = Vec::new(rt.alloc());
@@ -63,7 +64,7 @@ fn answer_all<R: Alloc<A = Global>, I: Read, W: Write, S: ChapterSink>(
         ends,
         &mut bytes,
         pen,
-        Entrance { first: 1, refused },
+        Entrance { first: 1, door },
     )
 }
 
@@ -74,13 +75,12 @@ fn hold_open<R: Alloc<A = Global>, I: Read, W: Write, S: ChapterSink>(
     session: Session,
     ends: &mut Ends<I, W, S>,
     pen: &mut Pen,
-    refused: &UnroomyCells,
+    door: &Door,
 ) -> Result<bool, TalkFault>
-    // Of each call: only a call with a condition may hand on closures.
-    requires number { 0 ≤ session.world.core.number }
+    requires known { AreRoomyFor session.world.core.floor door.now.roominess.items }
     requires done { IsDone (reader_buffer ends.old.input) pen.old.out.items }
     ensures { IfSome (reader_remaining I.remaining ends.old.input) (λ bytes.
-        ComesOpen pen.old.settings refused.now.marks.items (opened_fleet (talk session)) bytes
+        ComesOpen pen.old.settings door.now.refused.marks.items (opened_fleet (talk session)) bytes
         (W.contents ends.old.output) (W.contents ends.new.output) pen.old.out.items pen.new.out.items
         (record { old = S.kept ends.old.sink; new = S.kept ends.new.sink }) result) }
 {
@@ -88,7 +88,7 @@ fn hold_open<R: Alloc<A = Global>, I: Read, W: Write, S: ChapterSink>(
         session,
         limited: false,
     };
-    let ended = answer_all(rt, &mut fleet, ends, pen, refused);
+    let ended = answer_all(rt, &mut fleet, ends, pen, door);
     close(fleet, &mut ends.sink, ended)
 }
 
@@ -98,23 +98,22 @@ fn converse_open<R: Alloc<A = Global>, I: Read, W: Write, S: ChapterSink>(
     session: Session,
     settings: Settings,
     ends: &mut Ends<I, W, S>,
-    refused: &UnroomyCells,
+    door: &Door,
 ) -> Result<bool, TalkFault>
-    // Of each call: only a call with a condition may hand on closures.
-    requires { 0 ≤ session.world.core.number }
+    requires { AreRoomyFor session.world.core.floor door.now.roominess.items }
     ensures ended { IfOk result (λ met. IfSome (reader_remaining I.remaining ends.old.input) (λ bytes. (text : List ℕ) × (chapters : List (ChapterView Global))
-        × IsAnswered settings refused.now.marks.items (opened_fleet (talk session)) bytes text chapters met
+        × IsAnswered settings door.now.refused.marks.items (opened_fleet (talk session)) bytes text chapters met
         × Appends (W.contents ends.old.output) (W.contents ends.new.output) text
         × Adds (S.kept ends.old.sink) (S.kept ends.new.sink) chapters)) }
     ensures broken { IfErr result (λ fault. IsMidway fault → IfSome (reader_remaining I.remaining ends.old.input) (λ bytes. (text : List ℕ)
-        × IsAnsweredInPart settings refused.now.marks.items (opened_fleet (talk session)) bytes text
+        × IsAnsweredInPart settings door.now.refused.marks.items (opened_fleet (talk session)) bytes text
         × Appends (W.contents ends.old.output) (W.contents ends.new.output) text)) }
     ensures unwritten { result ≡ Err TalkFault.Output → IfSome (reader_remaining I.remaining ends.old.input) (λ bytes. (text : List ℕ)
-        × IsAnsweredInPart settings refused.now.marks.items (opened_fleet (talk session)) bytes text
+        × IsAnsweredInPart settings door.now.refused.marks.items (opened_fleet (talk session)) bytes text
         × AppendsPrefix (W.contents ends.old.output) (W.contents ends.new.output) text) }
 {
     let mut pen = Pen::new(rt.alloc(), settings);
-    let ended = hold_open(rt, session, ends, &mut pen, refused);
+    let ended = hold_open(rt, session, ends, &mut pen, door);
     end(&mut pen, &mut ends.output, ended)
 }
 
@@ -161,7 +160,7 @@ pub fn resume<R: Alloc<A = Global>, I: Read, W: Write, S: ChapterSink>(
         Ok((session, door)) => {
             ends.sink.goes_on(number, session.world.clock());
             ends.sink.opened(&door);
-            match converse_open(rt, session, settings, ends, &door.refused) {
+            match converse_open(rt, session, settings, ends, &door) {
                 Ok(limited) => Ok(limited),
                 Err(fault) => Err(ResumeFault::Talk(fault)),
             }

@@ -5,11 +5,12 @@ use Rattle.fleet_core.specs.Hooks.{AreOrderly}
 use Rattle.fleet_core.specs.Opening.{CanOpen}
 use Rattle.fleet_text.specs.Kit.{kit_laws}
 use Rattle.fleet_world.specs.Keeps.{talk}
-use Rattle.fleet_world.specs.Talk.{opened_talk}
+use Rattle.std.specs.declared.alloc.Global.{Global}
+use Rattle.fleet_world.specs.Talk.{Talk, opened_talk}
 use Rattle.fleet_talk.specs.Conversation.{clients_in, laws_in, limits_in}
 use Rattle.fleet_talk.specs.Door.{AreRefused}
 use Rattle.fleet_talk.specs.Heading.{drafted}
-use Rattle.fleet_talk.proofs.Doors.{door-for, fault-of, ok-by, ok-of, robots-named}
+use Rattle.fleet_talk.proofs.Doors.{door-for, fault-of, known-for, ok-by, ok-by2, ok-of, robots-named}
 use Rattle.fleet_talk.proofs.conversation.open_with_door.Goals as goal
 
 pub returns-in-Ok-clause-can : goal.returns-in-Ok-clause-can
@@ -29,3 +30,9 @@ returns-in-Ok-clause-door g c starts is =
 
 pub returns-in-Err-clause-refused : goal.returns-in-Err-clause-refused
 returns-in-Err-clause-refused g c starts is fault named same = (c.in-Err.ensures.refused starts is fault named).0 (fault-of c.in-Err.fault fault same)
+
+pub returns-in-Ok-clause-known : goal.returns-in-Ok-clause-known
+returns-in-Ok-clause-known g c =
+    ok-by2 c.with_door.result _ _ _
+    (λ r found same. known-for c.args.ground.grid r.0.world.core.floor c.door_for-door.result r.1 found (ap (λ (t : Talk Global). t.world.floor) same ∙ c.in-Ok.ensures.floor) c.door_for-door.ensures.roominess)
+    c.with_door.ensures.door c.with_door.ensures.session

@@ -10,13 +10,17 @@ use Rattle.fleet_talk.specs.Open.{fleet_of}
 use Rattle.fleet_talk.specs.Said.{end_said}
 use Rattle.fleet_talk.proofs.Breaking.{until-after, until-none, until-times, until-times-written}
 use Rattle.fleet_talk.proofs.Saying.{at-fault, says-none, says-then, says-written}
-use Rattle.fleet_talk.proofs.Keeping.{keeps-same, keeps-then}
+use Rattle.fleet_talk.proofs.Keeping.{keeps-same, keeps-then, known-still}
 use Rattle.fleet_talk.proofs.Onces.{all-asked, until-asked}
 use Rattle.fleet_talk.proofs.Talking.{answered, talks-more}
 use Rattle.fleet_talk.proofs.going.answer.Goals as goal
 
 pub loop-init : goal.loop-init
 loop-init g c = record { talks = ([], (refl, refl), says-none _ _); kept = keeps-same (g.S.ChapterSink.kept c.args.ends.now.sink) (talk c.args.fleet.now.session) (talk c.args.fleet.now.session) refl; settings = refl; input = refl }
+
+pub do_once-requires : goal.do_once-requires
+do_once-requires g c =
+    known-still (g.S.ChapterSink.kept c.args.ends.now.sink) (g.S.ChapterSink.kept c.loop.ends.sink) (talk c.args.fleet.now.session) (talk c.loop.fleet.session) c.args.roominess.now c.loop.invariant.kept c.requires
 
 pub loop-preserved : goal.loop-preserved
 loop-preserved g c =

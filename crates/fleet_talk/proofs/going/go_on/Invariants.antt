@@ -11,7 +11,7 @@ use Rattle.fleet_talk.proofs.going.go_on.Given as goal
 
 abbrev pub invariant-loop-number : goal.invariant-loop-number
 invariant-loop-number g l = record {
-  goes : IfSome (reader_remaining g.I.Read.remaining l.fn.ends.input) (λ xs. Goes l.fn.pen.settings l.fn.entrance.refused.now.marks.items (fleet_of l.fn.fleet) (acts_from l.fn.pen.settings l.fn.entrance.refused.now.marks.items l.fn.entrance.first (l.fn.bytes.items ∷ heard_lines xs))
+  goes : IfSome (reader_remaining g.I.Read.remaining l.fn.ends.input) (λ xs. Goes l.fn.pen.settings l.fn.entrance.door.now.refused.marks.items (fleet_of l.fn.fleet) (acts_from l.fn.pen.settings l.fn.entrance.door.now.refused.marks.items l.fn.entrance.first (l.fn.bytes.items ∷ heard_lines xs))
       (reader_remaining g.I.Read.remaining l.ends.input) (fleet_of l.fleet) l.number l.bytes.items
       (g.W.Write.contents l.fn.ends.output) (g.W.Write.contents l.ends.output) l.fn.pen.out.items l.pen.out.items);
   kept : KeepsTurned (g.S.ChapterSink.kept l.fn.ends.sink) (g.S.ChapterSink.kept l.ends.sink) (talk l.fn.fleet.session) (talk l.fleet.session);

@@ -10,9 +10,9 @@ returns g c =
     (λ text is. record {
       eldest = c.eldest.result;
       oldest = c.eldest.ensures;
-      within = c.idle_within.result;
-      told = c.idle_within.ensures.told;
-      ticks = c.idle_within.ensures.exact;
-      is = is ∙ same_line c.eldest.result c.idle_within.result c.clock.ensures c.chapter-chapter.ensures.number
+      within = c.roomy_within.result;
+      told = c.roomy_within.ensures.told c.requires;
+      ticks = c.roomy_within.ensures.exact;
+      is = is ∙ same_line c.eldest.result c.roomy_within.result c.clock.ensures c.chapter-chapter.ensures.number
           (c.len.ensures ∙ (c.chapter-chapter.result.now.entries.ok.0 ∙ ap (λ h. length h.entries) c.chapter-chapter.ensures.history)) c.placement.ensures;
     }) c.look_line.ensures

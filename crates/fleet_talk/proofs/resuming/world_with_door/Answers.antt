@@ -2,10 +2,12 @@
 use Rattle.std.proofs.Common.{◌∙◌, ℕ, ap}
 use Rattle.std.specs.Prelude.{min}
 use Rattle.fleet_text.specs.Kit.{kit_laws}
+use Rattle.std.specs.declared.alloc.Global.{Global}
+use Rattle.fleet_core.specs.Core.{World}
 use Rattle.fleet_talk.specs.Chapters.{chapter_shown}
 use Rattle.fleet_talk.specs.Conversation.{Terms}
 use Rattle.fleet_talk.specs.Heading.{drafted}
-use Rattle.fleet_talk.proofs.Doors.{door-fault, lets-in, without-word}
+use Rattle.fleet_talk.proofs.Doors.{door-fault, known-for, lets-in, without-word}
 use Rattle.fleet_talk.proofs.resuming.world_with_door.Goals as goal
 
 pub returns-in-Ok-door_to-clause-door : goal.returns-in-Ok-door_to-clause-door
@@ -23,3 +25,7 @@ returns-in-Err-door_to-clause-fault g c =
 pub returns-in-Err-clause-fault : goal.returns-in-Err-clause-fault
 returns-in-Err-clause-fault g c =
     without-word c.args.settings.roomy (kit_laws c.args.ground.kit) c.args.ground.grid (drafted c.args.ground.head) (chapter_shown c.args.chapter.now) c.in-Err.fault c.in-Err.ensures.fault
+
+pub returns-in-Ok-door_to-clause-known : goal.returns-in-Ok-door_to-clause-known
+returns-in-Ok-door_to-clause-known g c =
+    known-for c.args.ground.grid c.in-Ok.world.core.floor c.door_for-door.result c.in-Ok-door_to.door c.in-Ok-door_to.ensures.ok.0 (ap (λ (w : World Global). w.floor) c.in-Ok.ensures.ok) c.door_for-door.ensures.roominess

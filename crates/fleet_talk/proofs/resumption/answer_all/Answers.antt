@@ -9,4 +9,4 @@ pub returns-in_err-next_line-clause-broken : goal.returns-in_err-next_line-claus
 returns-in_err-next_line-clause-broken g c =
     let fault = c.in_err-next_line.field-0.0 in
     at-fault _ fault _ c.from_residual.ensures.1
-    (none-read c.args.pen.now.settings c.args.refused.now.marks.items (fleet_of c.args.fleet.now) fault (reader_remaining g.I.Read.remaining c.args.ends.now.input) (g.W.Write.contents c.args.ends.now.output) c.args.pen.now.out.items c.in_err-next_line.ensures.midway)
+    (none-read c.args.pen.now.settings c.args.door.now.refused.marks.items (fleet_of c.args.fleet.now) fault (reader_remaining g.I.Read.remaining c.args.ends.now.input) (g.W.Write.contents c.args.ends.now.output) c.args.pen.now.out.items c.in_err-next_line.ensures.midway)

@@ -11,5 +11,5 @@ returns g c =
     let before = g.S.ChapterSink.kept c.args.ends.now.sink in
     let mid = g.S.ChapterSink.kept c.answer_all-ended.new.ends.sink in
     let after = g.S.ChapterSink.kept c.close.new.sink in
-    come-open c.args.pen.now.settings c.args.refused.now.marks.items before mid after (reader_remaining g.I.Read.remaining c.args.ends.now.input) (g.W.Write.contents c.args.ends.now.output) (g.W.Write.contents c.answer_all-ended.new.ends.output) c.args.pen.now.out.items c.answer_all-ended.new.pen.out.items (opened_fleet (talk c.args.session)) (fleet_of c.answer_all-ended.new.fleet) c.answer_all-ended.result c.close.result
+    come-open c.args.pen.now.settings c.args.door.now.refused.marks.items before mid after (reader_remaining g.I.Read.remaining c.args.ends.now.input) (g.W.Write.contents c.args.ends.now.output) (g.W.Write.contents c.answer_all-ended.new.ends.output) c.args.pen.now.out.items c.answer_all-ended.new.pen.out.items (opened_fleet (talk c.args.session)) (fleet_of c.answer_all-ended.new.fleet) c.answer_all-ended.result c.close.result
     c.answer_all-ended.ensures.talks c.answer_all-ended.ensures.broken c.answer_all-ended.ensures.kept c.close.ensures.ended c.close.ensures.kept
