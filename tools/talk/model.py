@@ -1,12 +1,13 @@
 #!/usr/bin/env python3
 """A conversation with a fleet once more: an independent model of `fleet talk`, written from docs/PROTOCOL.md over the model of `errands`.
 
-usage: tools/talk/model.py [--marks] [--roll] [--roomy] [--resume CHAPTER] MAP [SCRIPT] < LINES
+usage: tools/talk/model.py [--marks] [--roll] [--chapter-bytes N] [--roomy] [--resume CHAPTER] MAP [SCRIPT] < LINES
        tools/talk/model.py --cases FILE
 
 Answers as `fleet talk` does: output, error text, status. With --resume the fleet goes on from the file of a chapter, DIR/chapter-N.json. With
 --cases it reads the section `talk` of crates/golden_errands/stdin and prints what golden_errands has to print of it.
-`talk(map, script, lines, marks, roll, kept, roomy)` returns (output, error text, status); `kept` is the name of a chapter's file, its number and
+`talk(map, script, lines, marks, roll, kept, roomy)` returns (output, error text, status); `roll` is the bytes that a chapter's text may have where
+chapters are handed out unasked, or None; `kept` is the name of a chapter's file, its number and
 its text. The error text begins with the warning that cells are not roomy, if there is one. Standard library only.
 """
 import os
@@ -272,6 +273,11 @@ def unroomy_cells(grid, robots):
     return floor.floor - floor.roomy(robots)
 
 
+def open_count(world):
+    """How many errands are in the robots' queues."""
+    return sum(map(len, world.queues))
+
+
 class Talk:
     def __init__(self, grid, head, marks, roll, roomy):
         self.grid, self.head, self.marks, self.roll, self.roomy = grid, head, marks, roll, roomy
@@ -284,6 +290,7 @@ class Talk:
         self.world, self.head.limits = reopened(self.grid, self.head, name, number, text)
         self.head.clients = len(self.world.taken)
         self.rings = new_rings(self.world)
+        self.opened_with = open_count(self.world)
         self.find_door()
         for client in range(self.head.clients):
             for robot, queue in enumerate(self.world.queues):
@@ -310,12 +317,24 @@ class Talk:
         hooks = (model.south_hooks if self.head.south else model.plain_hooks)(len(self.head.starts))
         self.world = model.World(self.grid, self.head.starts, self.head.clients, self.head.limits, hooks)
         self.rings = model.run(self.grid, self.head.starts, self.head.clients, self.head.limits, hooks, [])
+        self.opened_with = 0
         self.find_door()
 
     def turn(self):
         told = f"chapter {self.world.number} entries {len(self.world.entries)}"
         self.world.next_chapter()
+        self.opened_with = open_count(self.world)
         return told
+
+    def is_long(self, event):
+        """Whether the chapter's text may have as many bytes as it may have, before an event that makes an entry. A chapter has at most 128 bytes, 136 for a
+        robot, 80 for a client, 152 for an errand in a queue (48 there, and 104 where it is done with its robot's farewell); 128 and 8 for a robot for a tick,
+        and 200 for another entry (96, and 104 if it is an errand that is done)."""
+        w = self.world
+        robots, ticks = len(w.place), sum(entry[0] == "tick" for entry in w.entries)
+        opening = 128 + 136 * robots + 80 * len(w.taken) + 152 * self.opened_with
+        length = opening + ticks * (128 + 8 * robots) + (len(w.entries) - ticks) * 200
+        return self.roll is not None and event[0] in ("take", "tick", "shut") and w.entries and length >= self.roll
 
     def reply(self, event):
         """The reply to an event, and the entry that it made, if it made one."""
@@ -328,8 +347,15 @@ class Talk:
             client = event[1]
             self.say(mark, [f"post-refused {client} 3 no-room" if client < self.head.clients else f"no-client {client}"])
             return
+        rolled = False
+        if self.is_long(event):
+            try:
+                self.say(mark, [self.turn()])
+                rolled = True
+            except model.BookSpent:
+                pass
         reply, entry = self.reply(event)
-        if self.roll and reply in NO_ROOM:
+        if not rolled and self.roll is not None and reply in NO_ROOM:
             try:
                 self.say(mark, [self.turn()])
             except model.BookSpent:
@@ -381,7 +407,7 @@ def head_of(script):
     return head
 
 
-def talk(text, script, lines, marks=False, roll=False, kept=None, roomy=False):
+def talk(text, script, lines, marks=False, roll=None, kept=None, roomy=False):
     """(output, error text, status)"""
     output, warning, complaint, status = told_in(text, script, lines, marks, roll, kept, roomy)
     return output, warning + complaint, status
@@ -441,11 +467,19 @@ def tell(name, options, lines):
     if b"cut" in options:
         lines = lines[:-1]
     # the stored run's sink says no warning
-    out, _, error, status = told_in(text, script, lines, b"marks" in options, b"roll" in options, kept, b"roomy" in options)
+    out, _, error, status = told_in(text, script, lines, b"marks" in options, most_bytes(options), kept, b"roomy" in options)
     told = b"case: " + name + b"\n" + out + f"status {status}\n{error}".encode()
     if b"trials" in options:
         told += b"".join(trial + b": as it should\n" for trial in TRIALS)
     return told
+
+
+def most_bytes(options):
+    """The bytes that a chapter's text may have, where options say that chapters are handed out unasked."""
+    for option in options:
+        if option.startswith(b"bytes "):
+            return int(option.split()[1])
+    return 64 << 20 if b"roll" in options else None
 
 
 TRIALS = (
@@ -490,9 +524,13 @@ def main(words):
                 sys.stdout.buffer.write(tell(*case))
         return 0
     kept, words = kept_in(words)
+    roll = 64 << 20 if "--roll" in words else None
+    if "--chapter-bytes" in words:
+        at = words.index("--chapter-bytes")
+        roll, words = int(words[at + 1]), words[:at] + words[at + 2:]
     names = [word for word in words if not word.startswith("--")]
     texts = [open(name, "rb").read() for name in names] + [b""]
-    out, error, status = talk(texts[0], texts[1], sys.stdin.buffer.read(), "--marks" in words, "--roll" in words, kept, "--roomy" in words)
+    out, error, status = talk(texts[0], texts[1], sys.stdin.buffer.read(), "--marks" in words, roll, kept, "--roomy" in words)
     sys.stdout.buffer.write(out)
     sys.stderr.write(error)
     return status

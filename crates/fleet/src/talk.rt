@@ -7,7 +7,9 @@ use crate::ends::{FileFault, MOST_MAP_BYTES, complain, file_bytes};
 use crate::folder::{Start, complain_of_folder, hold_folder, tell_start};
 use crate::kept_file::KeptFile;
 use crate::troubles::Troubles;
-use fleet_lib::{ChapterSink, Ends, InputFault, Settings, Talk, TalkTexts, fail, run_talk};
+use fleet_lib::{
+    ChapterSink, Ends, InputFault, Settings, Talk, TalkTexts, complain_of_talk, fail, run_talk, talk_settings,
+};
 use std::alloc::{Alloc, AllocError, Global};
 use std::fs::{File, Files};
 use std::io::{BufReader, Read, Write};
@@ -71,7 +73,7 @@ fn hold_talk<
     S: ChapterSink + Drop,
 >(
     rt: &R,
-    talk: &Talk,
+    (talk, settings): (&Talk, Settings),
     kept: &Option<KeptFile>,
     (input, output): (I, W),
     error: &mut E,
@@ -92,11 +94,6 @@ fn hold_talk<
         output,
         sink,
     };
-    let settings = Settings {
-        marks: talk.marks,
-        roll: talk.roll,
-        roomy: talk.roomy,
-    };
     let texts = lent_texts(&map, &script, kept);
     run_talk(rt, texts, settings, &mut ends, error)
 }
@@ -109,7 +106,8 @@ fn talk_on<
     E: Write + Copy + Drop,
 >(
     rt: &R,
-    (talk, kept): (&Talk, &Option<KeptFile>),
+    (talk, settings): (&Talk, Settings),
+    kept: &Option<KeptFile>,
     ends: (I, W),
     error: &mut E,
 ) -> Result<u8, AllocError> {
@@ -119,7 +117,7 @@ fn talk_on<
     let ends = troubles.streams(rt, ends)?;
     let sink = TraceFolder::new(rt, name, troubles.folder()?, *error);
     let mut said = Vec::new(alloc);
-    let status = hold_talk(rt, talk, kept, ends, &mut said, sink);
+    let status = hold_talk(rt, (talk, settings), kept, ends, &mut said, sink);
     troubles.tell(alloc, (status, &said), name.unwrap_or(""), error);
     Ok(status)
 }
@@ -132,12 +130,16 @@ pub(crate) fn talk_in_folder<
     W: Write + Drop,
     E: Write + Copy + Drop,
 >(rt: &R, talk: &Talk, ends: (I, W), error: &mut E) -> u8 {
+    let settings = match talk_settings(talk) {
+        Ok(settings) => settings,
+        Err(fault) => return complain_of_talk(fault, error),
+    };
     let name = talk.traces.as_deref();
     let start = Start::of(talk.resume, talk.resume_only);
     match hold_folder(rt, name, start) {
         Ok((folder, kept)) => {
             tell_start(start, &kept, error);
-            let status = match talk_on(rt, (talk, &kept), ends, error) {
+            let status = match talk_on(rt, (talk, settings), &kept, ends, error) {
                 Ok(status) => status,
                 Err(AllocError) => fail(InputFault::NoMemory, error),
             };

@@ -84,6 +84,7 @@ pub record IsTalk (rows : List Row) (talk : TalkJob) : Type 0 where
   pub resume_only : talk.resume_only ≡ has_flag (codes "resume-only") rows
   pub marks : talk.marks ≡ has_flag (codes "marks") rows
   pub roll : talk.roll ≡ has_flag (codes "roll") rows
+  pub chapter_bytes : first_of (codes "chapter-bytes") rows ≡ option_map (λ s. string_bytes s) talk.chapter_bytes
   pub roomy : talk.roomy ≡ has_flag (codes "roomy") rows
 
 -- the target of a name: a plan in a form, or a trace

@@ -3,6 +3,7 @@
 ghost use Rattle.std.specs.Prelude.{◌≡◌, ◌≤◌, ◌<◌, ◌⊎◌, ◌==◌, ℕ, Some, None, if◌then◌else◌, IfOk, IfSome, IfNone, length, map, string_bytes};
 ghost use Rattle.fleet_map.specs.Text.{number_of};
 
+use crate::chapter_bytes::chapter_bytes_in;
 use crate::ending::tell_end;
 use crate::kept::{KeptFault, kept_chapter};
 use crate::pipes::names_twice;
@@ -134,26 +135,6 @@ fn time_in(word: &Option<String>, fault: BadWord) -> Result<Option<u32>, BadWord
             Some(micros) => Ok(Some(micros)),
             None => Err(fault),
         },
-    }
-}
-
-/// The bytes of a chapter's text that a word asks for: from 1 MiB to 1 GiB, which is the greatest that can be read, and
-/// 64 MiB without a word.
-fn chapter_bytes_in(word: &Option<String>) -> Option<u64>
-    ensures none { word.now ≡ None → result ≡ Some 67108864 }
-    ensures some { IfSome word.now (λ text. IfSome result (λ n. (1048576 ≤ n) × (n ≤ 1073741824) × (number_of (string_bytes text) ≡ Some n))) }
-    ensures refused { IfSome word.now (λ text. IfNone result ((n : ℕ) → number_of (string_bytes text) ≡ Some n → (n < 1048576) ⊎ (1073741824 < n))) }
-{
-    match word {
-        None => Some(64 << 20),
-        Some(word) => {
-            let number = number_up_to(word.as_bytes(), (1 << 30) + 1)?;
-            if 1 << 20 <= number && number <= 1 << 30 {
-                Some(number)
-            } else {
-                None
-            }
-        }
     }
 }
 

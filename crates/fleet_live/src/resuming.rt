@@ -67,7 +67,7 @@ fn world_on(
 {
     let settings = Settings {
         marks: false,
-        roll: true,
+        roll: None,
         roomy,
     };
     world_with_door(alloc, ground, &chapter, settings)

@@ -49,12 +49,12 @@ laws-same : (kit : KitLaws) (d : Draft) (plan : Plan) (starts : List ℕ) → st
 laws-same kit d plan starts same south = rw (same, south) refl
 
 talked_run : (kit : KitLaws) (m : Floor) (plan : Plan) (text : List ℕ) (o : Opening) (last : Fleet Global) → o.starts ≡ plan.starts → IsOf o.head plan → NamesLimits o.head → MayOpen (plain_terms kit m) o → (cells : List Bool)
-    → acts_of (plain_terms kit m) cells o ≡ map (play None) plan.events → Talks false (opened_fleet (plain_terms kit m) o) (acts_of (plain_terms kit m) cells o) text last
+    → acts_of (plain_terms kit m) cells o ≡ map (play None) plan.events → Talks None (opened_fleet (plain_terms kit m) o) (acts_of (plain_terms kit m) cells o) text last
     → IsRunOf m plan text last.met plan.starts plan.clients plan.limits (chosen_laws kit plan)
 talked_run kit m plan text o last starts of named may cells acts talks =
     let d = o.head in
     let laws = laws_in kit d o.starts in
-    let all = subst (λ (l : List Act). Talks false (opened_fleet {A = Global} (plain_terms kit m) o) l text last) acts talks in
+    let all = subst (λ (l : List Act). Talks None (opened_fleet {A = Global} (plain_terms kit m) o) l text last) acts talks in
     let (replies, end, run, same, met, is) = said-run m o.starts (clients_in d) (limits_in d) laws plan.events text last may.0 may.1 all in
     in-terms (IsRunOf m plan text last.met) o.starts plan.starts (clients_in d) plan.clients (limits_in d) plan.limits laws (chosen_laws kit plan)
     starts (sym of.clients) (limits-same d named ∙ sym of.limits) (laws-same kit d plan o.starts starts of.south) (replies, end, run, met, is)
@@ -73,21 +73,21 @@ script-run kit m bytes text chapters met plan read short named conv = by conv
       | inr e ↦ e
     ]
 
-    begins : (cells : List Bool) (free : (c : ℕ) → has cells c ≡ false) → Heads false cells free blank_draft 1 (heard_lines bytes) plan → (head_in (plain_terms kit m) bytes).opening ≡ None → text ≡ all_of (head_in (plain_terms kit m) bytes).said → met ≡ false
+    begins : (cells : List Bool) (free : (c : ℕ) → has cells c ≡ false) → Heads None cells free blank_draft 1 (heard_lines bytes) plan → (head_in (plain_terms kit m) bytes).opening ≡ None → text ≡ all_of (head_in (plain_terms kit m) bytes).said → met ≡ false
         → IsRunOf m plan text met plan.starts plan.clients plan.limits (chosen_laws kit plan)
     begins cells free (silent is none) at said unmet = silent_run m plan text met (chosen_laws kit plan) none (said ∙ ap (λ (h : Head). all_of h.said) is) unmet
     begins cells free (opened o is starts of acts) at said unmet = absurd (at_none o (head_in (plain_terms kit m) bytes).opening at (ap (λ (h : Head). h.opening) is))
 
     talks_on : (o2 : Opening) → (head_in (plain_terms kit m) bytes).opening ≡ Some o2 → MayOpen (plain_terms kit m) o2 → (cells : List Bool) (free : (c : ℕ) → has cells c ≡ false) → (answers : List ℕ) (last : Fleet Global)
-        → Talks false (opened_fleet (plain_terms kit m) o2) (acts_of (plain_terms kit m) cells o2) answers last → text ≡ all_of (head_in (plain_terms kit m) bytes).said ++ answers → met ≡ last.met
-        → Heads false cells free blank_draft 1 (heard_lines bytes) plan → IsRunOf m plan text met plan.starts plan.clients plan.limits (chosen_laws kit plan)
+        → Talks None (opened_fleet (plain_terms kit m) o2) (acts_of (plain_terms kit m) cells o2) answers last → text ≡ all_of (head_in (plain_terms kit m) bytes).said ++ answers → met ≡ last.met
+        → Heads None cells free blank_draft 1 (heard_lines bytes) plan → IsRunOf m plan text met plan.starts plan.clients plan.limits (chosen_laws kit plan)
     talks_on o2 at may cells free answers last talks said limited (silent is none) = absurd (at_none o2 (head_in (plain_terms kit m) bytes).opening (ap (λ (h : Head). h.opening) is) at)
     talks_on o2 at may cells free answers last talks said limited (opened o is starts of acts) =
         let same : o2 ≡ o = same_Some o2 o (sym at ∙ ap (λ (h : Head). h.opening) is) in
         let names = subst (λ (k : Option Opening). IfSome k (λ o. NamesLimits o.head)) (ap (λ (h : Head). h.opening) is) named in
         let told : text ≡ answers = said ∙ ap (λ (h : Head). all_of h.said ++ answers) is in
         let may2 = subst (λ (x : Opening). MayOpen (plain_terms kit m) x) same may in
-        let talks2 = subst (λ (x : Opening). Talks false (opened_fleet {A = Global} (plain_terms kit m) x) (acts_of (plain_terms kit m) cells x) answers last) same talks in
+        let talks2 = subst (λ (x : Opening). Talks None (opened_fleet {A = Global} (plain_terms kit m) x) (acts_of (plain_terms kit m) cells x) answers last) same talks in
         subst (λ (b : Bool). IsRunOf m plan text b plan.starts plan.clients plan.limits (chosen_laws kit plan)) (sym limited)
         (subst (λ (t : List ℕ). IsRunOf m plan t last.met plan.starts plan.clients plan.limits (chosen_laws kit plan)) (sym told) (talked_run kit m plan answers o last starts of names may2 cells acts talks2))
 

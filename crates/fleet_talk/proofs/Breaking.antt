@@ -22,7 +22,7 @@ replicate-split x (suc k) (suc n) h =
     let same : n - k ≡ suc n - suc k = omega arith in
     ap (λ l. x ∷ l) (replicate-split x k n less ∙ ap (λ (i : ℕ). replicate k x ++ replicate i x) same)
 
-module _ {A : Type 0} (fault : TalkFault) (roll : Bool) where
+module _ {A : Type 0} (fault : TalkFault) (roll : Option ℕ) where
   -- none of these acts was done
   pub until-none : (s : Fleet A) (acts : List Act) (known : Option (List ℕ)) (waited waits : List ℕ) → IsMidway fault → waits ≡ waited → TalksUntil fault roll s acts known known waited waits
   until-none s acts known waited waits is same = record {

@@ -88,9 +88,9 @@ grows s t (Collect c) (Collected notice) st = still s _ _ t (ap (λ (x : Talk _)
 grows s t _ _ st = absurd st
 
 -- nothing was handed out unasked
-stayed : {A : Type 0} (s m : Talk A) (mark : Option (List ℕ)) (e : Event) (text : List ℕ) → Rolls false s mark e text m → (m ≡ s) × (text ≡ [])
+stayed : {A : Type 0} (s m : Talk A) (mark : Option (List ℕ)) (e : Event) (text : List ℕ) → Rolls None s mark e text m → (m ≡ s) × (text ≡ [])
 stayed s m mark e text (stays free same none) = (same, none)
-stayed s m mark e text (rolls turned needs same is) = absurd (let bad : false ≡ true = turned in cc)
+stayed s m mark e text (rolls due same is) = absurd due
 
 behind : {X : Type 0} (xs made more : List X) → drop (length made) (made ++ more) ≡ more
 behind xs [] more = refl
@@ -116,7 +116,7 @@ or_false : (b : Bool) → b ≡ (b || false)
 or_false true = refl
 or_false false = refl
 
-said : {A : Type 0} (s : State A) (met : Bool) (t : Fleet A) (events : List Event) (text : List ℕ) → IsFresh s → Talks false (record { talk = forget s; met = met }) (map (play None) events) text t → IsSaid s met events text t
+said : {A : Type 0} (s : State A) (met : Bool) (t : Fleet A) (events : List Event) (text : List ℕ) → IsFresh s → Talks None (record { talk = forget s; met = met }) (map (play None) events) text t → IsSaid s met events text t
 said {A} s met t [] text f (none, same) = record {
   replies = [];
   last = s;
@@ -132,7 +132,7 @@ said {A} s met t (e ∷ events) text f (mid, first, rest, (m, before, after, rol
     let step : TalkStep (forget s) e plays.reply mid.talk = subst (λ (x : Talk A). TalkStep x e plays.reply mid.talk) same plays.step in
     let (next, done, there) = step-of s f e plays.reply mid.talk step in
     let g = grows (forget s) mid.talk e plays.reply step in
-    let more = said next mid.met t events rest (fresh-step s next e plays.reply f done) (subst (λ (x : Talk A). Talks false (record { talk = x; met = mid.met }) (map (play None) events) rest t) (sym there) talks) in
+    let more = said next mid.met t events rest (fresh-step s next e plays.reply f done) (subst (λ (x : Talk A). Talks None (record { talk = x; met = mid.met }) (map (play None) events) rest t) (sym there) talks) in
     let told : first ≡ event_text e plays.reply (slice_get (g.made ++ more.made) 0) = parts ∙ (ap (λ l. l ++ after) none ∙ (plays.said ∙ g.said more.made)) in
     let cut : more.made ≡ drop (entries_made plays.reply) (g.made ++ more.made) = sym (behind [] g.made more.made) ∙ ap (λ n. drop n (g.made ++ more.made)) g.count in
     record {
@@ -147,11 +147,11 @@ said {A} s met t (e ∷ events) text f (mid, first, rest, (m, before, after, rol
     }
 
 pub said-run : {A : Type 0} (m : Floor) (starts : List ℕ) (n : ℕ) (limits : Limits) (laws : HookLaws) (events : List Event) (text : List ℕ) (t : Fleet A) →
-    CanOpen m starts n limits laws → AreOrderly laws → Talks false (opened_fleet (opened_talk m starts n limits laws)) (map (play None) events) text t →
+    CanOpen m starts n limits laws → AreOrderly laws → Talks None (opened_fleet (opened_talk m starts n limits laws)) (map (play None) events) text t →
     (replies : List Reply) × (last : State A) × Run (opened_state m starts n limits laws) events replies last × (forget last ≡ t.talk)
     × (t.met ≡ list_any is_limit_met replies) × (text ≡ run_text events replies last.world.history.entries)
 said-run {A} m starts n limits laws events text t can orderly talks =
     let o : State A = opened_state m starts n limits laws in
-    let shown : Talks false (opened_fleet (forget o)) (map (play None) events) text t = subst (λ (x : Talk A). Talks false (opened_fleet x) (map (play None) events) text t) (sym (forget-opened m starts n limits laws)) talks in
+    let shown : Talks None (opened_fleet (forget o)) (map (play None) events) text t = subst (λ (x : Talk A). Talks None (opened_fleet x) (map (play None) events) text t) (sym (forget-opened m starts n limits laws)) talks in
     let is = said o false t events text (fresh-opened m starts n limits laws can orderly) shown in
     (is.replies, is.last, is.run, is.same, is.limited, is.is ∙ ap (run_text events is.replies) (sym is.grown ∙ ap (λ (x : Talk A). entries x) (sym is.same)))

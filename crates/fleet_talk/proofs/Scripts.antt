@@ -195,7 +195,7 @@ line_is : (d : Draft) (n : ℕ) (raw : List ℕ) (m : Draft) (asked : Asked) →
 line_is d n raw m asked short line is = plain_line n raw short (unmarked d n (strip_carriage_return raw) m line) ∙ ap (script_line n raw) is
 
 -- without marks
-abbrev pub unmarked_settings : Bool → Settings
+abbrev pub unmarked_settings : Option ℕ → Settings
 unmarked_settings roll = record { marks = false; roll = roll; roomy = false }
 
 -- of a line that is short all is heard
@@ -236,7 +236,7 @@ module _ (cells : List Bool) (none : (c : ℕ) → has cells c ≡ false) where
   same_line : (n : ℕ) (raw : List ℕ) → line_let_in cells n raw ≡ line_in n raw
   same_line n raw = ap (λ (asked : Asked). record (line_in n raw) { asked = asked }) (same_asked (line_in n raw).asked)
 
-module _ (roll : Bool) (cells : List Bool) (none : (c : ℕ) → has cells c ≡ false) where
+module _ (roll : Option ℕ) (cells : List Bool) (none : (c : ℕ) → has cells c ≡ false) where
   abbrev settings : Settings
   settings = unmarked_settings roll
 

@@ -22,7 +22,7 @@ use Rattle.fleet_talk.proofs.Saying.{says-then, says-added}
 
 -- ---- acts
 
-module _ {A : Type 0} (roll : Bool) where
+module _ {A : Type 0} (roll : Option ℕ) where
   pub talks-one : (s t : Fleet A) (act : Act) (text : List ℕ) → Does roll s act text t → Talks roll s (act ∷ []) text t
   talks-one s t act text does = (t, text, [], does, (refl, refl), sym (append-nil text))
 

@@ -1,5 +1,5 @@
 -- What is done act by act, and what is said of it.
-use Rattle.std.specs.Prelude.{◌≡◌, ℕ, ◌+◌, Bool, true, false, ◌||◌, List, [], ◌∷◌, ◌++◌, length, Option, slice_get, ◌-◌}
+use Rattle.std.specs.Prelude.{◌≡◌, ℕ, ◌+◌, Bool, true, false, ◌||◌, List, [], ◌∷◌, ◌++◌, length, Option, Some, None, ◌⊎◌, slice_get, ◌-◌}
 use Rattle.fleet_book.specs.declared.event.Event.{Event}
 use Rattle.fleet_book.specs.declared.event.Event.TheVariants as event
 use Rattle.fleet_history.specs.declared.history.Entry.{Entry}
@@ -16,13 +16,14 @@ use Rattle.fleet_talk.specs.Fleet.{Fleet}
 use Rattle.fleet_text.specs.Answers.{chapter_line, chapter_refused_line}
 use Rattle.fleet_talk.specs.Says.{marked}
 use Rattle.fleet_talk.specs.Look.{IsLook}
+use Rattle.fleet_talk.specs.Long.{IsLong}
 use Rattle.fleet_talk.specs.Listed.{listed_text}
 
 -- whether this reply, where a full chapter may be handed out, is the refusal of an event for whose entry the chapter has no room
-abbrev pub wants_room : Bool → Reply → Bool
-wants_room true (TakeRefused take_fault.ChapterFull) = true
-wants_room true (TickRefused tick_fault.ChapterFull) = true
-wants_room true (ShutRefused shut_fault.ChapterFull) = true
+abbrev pub wants_room : Option ℕ → Reply → Bool
+wants_room (Some roll) (TakeRefused take_fault.ChapterFull) = true
+wants_room (Some roll) (TickRefused tick_fault.ChapterFull) = true
+wants_room (Some roll) (ShutRefused shut_fault.ChapterFull) = true
 wants_room _ _ = false
 
 -- an event is refused, and only because the chapter has no room for its entry
@@ -41,10 +42,15 @@ pub data HandsOut {A : Type 0} (s : Talk A) (mark : Option (List ℕ)) (text : L
   handed : t ≡ next_talk s → text ≡ marked mark (chapter_line s.world.number (length s.world.history.entries)) → HandsOut s mark text t
   spent : s.world.number + 1 ≡ s.world.limits.chapters → t ≡ s → text ≡ marked mark chapter_refused_line → HandsOut s mark text t
 
--- before an event: the chapter was handed out unasked, if that is to be and the event needs the room
-pub data Rolls {A : Type 0} (roll : Bool) (s : Talk A) (mark : Option (List ℕ)) (e : Event) (text : List ℕ) (t : Talk A) : Type 0 where
-  stays : (roll ≡ true → NeedsRoom s e → s.world.number + 1 ≡ s.world.limits.chapters) → t ≡ s → text ≡ [] → Rolls roll s mark e text t
-  rolls : roll ≡ true → NeedsRoom s e → t ≡ next_talk s → text ≡ marked mark (chapter_line s.world.number (length s.world.history.entries)) → Rolls roll s mark e text t
+-- before an event the chapter is to be handed out unasked: the event needs the room, or the text may be as long as a chapter's may be
+abbrev pub IsDue : {A : Type 0} → Option ℕ → Talk A → Event → Type 0
+IsDue None s e = ⊥
+IsDue (Some roll) s e = NeedsRoom s e ⊎ IsLong roll s e
+
+-- before an event: the chapter was handed out unasked, if that is to be and it is not the last
+pub data Rolls {A : Type 0} (roll : Option ℕ) (s : Talk A) (mark : Option (List ℕ)) (e : Event) (text : List ℕ) (t : Talk A) : Type 0 where
+  stays : (IsDue roll s e → s.world.number + 1 ≡ s.world.limits.chapters) → t ≡ s → text ≡ [] → Rolls roll s mark e text t
+  rolls : IsDue roll s e → t ≡ next_talk s → text ≡ marked mark (chapter_line s.world.number (length s.world.history.entries)) → Rolls roll s mark e text t
 
 -- the event was done, and this was said of its reply, which may be that a limit was met
 pub record Plays {A : Type 0} (s : Fleet A) (mark : Option (List ℕ)) (e : Event) (text : List ℕ) (t : Fleet A) : Type 0 where
@@ -54,7 +60,7 @@ pub record Plays {A : Type 0} (s : Fleet A) (mark : Option (List ℕ)) (e : Even
   pub said : text ≡ marked mark (event_text e reply (last_entry t.talk))
 
 -- From s, an act may come to t, and this text is said of it.
-abbrev pub Does : {A : Type 0} → Bool → Fleet A → Act → List ℕ → Fleet A → Type 0
+abbrev pub Does : {A : Type 0} → Option ℕ → Fleet A → Act → List ℕ → Fleet A → Type 0
 Does roll s (say mark line) text t = (text ≡ marked mark line) × (t ≡ s)
 Does {A} roll s (play mark e) text t =
     (mid : Talk A) × (before : List ℕ) × (after : List ℕ) × Rolls roll s.talk mark e before mid × Plays (record { talk = mid; met = s.met }) mark e after t × (text ≡ before ++ after)
@@ -64,6 +70,6 @@ Does roll s (list mark client) text t = (text ≡ marked mark (listed_text s.tal
 Does roll s (refuse mark client) text t = (text ≡ marked mark (refused_post_text s.talk.world client)) × (t ≡ s)
 
 -- acts one after another, and all that is said of them
-abbrev pub Talks : {A : Type 0} → Bool → Fleet A → List Act → List ℕ → Fleet A → Type 0
+abbrev pub Talks : {A : Type 0} → Option ℕ → Fleet A → List Act → List ℕ → Fleet A → Type 0
 Talks roll s [] text t = (text ≡ []) × (t ≡ s)
 Talks {A} roll s (act ∷ acts) text t = (mid : Fleet A) × (first : List ℕ) × (rest : List ℕ) × Does roll s act first mid × Talks roll mid acts rest t × (text ≡ first ++ rest)

@@ -116,4 +116,4 @@ pub record NamesLimits (d : Draft) : Type 0 where
 
 -- a conversation without marks, in which no chapter is handed out unasked
 abbrev pub plain_terms : KitLaws → Floor → Terms
-plain_terms kit m = record { kit = kit; floor = m; settings = record { marks = false; roll = false; roomy = false }; head = blank_draft }
+plain_terms kit m = record { kit = kit; floor = m; settings = record { marks = false; roll = None; roomy = false }; head = blank_draft }

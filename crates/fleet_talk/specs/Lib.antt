@@ -9,6 +9,7 @@ pub mod Due
 pub mod Heading
 pub mod Heads
 pub mod HeadFile
+pub mod Long
 pub mod Look
 pub mod Listed
 pub mod Fleet

@@ -1,12 +1,12 @@
 -- One act of a line, in two parts where a chapter is to be kept in between.
-use Rattle.std.specs.Prelude.{⊤, ◌≡◌, ℕ, ◌+◌, Bool, true, List, ◌++◌, length, Option, Some, None}
+use Rattle.std.specs.Prelude.{⊤, ◌≡◌, ℕ, ◌+◌, List, ◌++◌, length, Option, Some, None}
 use Rattle.std.specs.declared.alloc.Global.{Global}
 use Rattle.fleet_history.specs.declared.history.Chapter.{Chapter}
 use Rattle.fleet_world.specs.Talk.{Talk, next_talk}
 use Rattle.fleet_text.specs.Answers.{chapter_line}
 use Rattle.fleet_talk.specs.declared.pen.Pen.{Pen}
 use Rattle.fleet_talk.specs.Act.{Act, play, turn}
-use Rattle.fleet_talk.specs.Acts.{Does, NeedsRoom, Plays}
+use Rattle.fleet_talk.specs.Acts.{Does, IsDue, Plays}
 use Rattle.fleet_talk.specs.Chapters.{ChapterView, IsSound, beginning, chapter_in, chapter_shown}
 use Rattle.fleet_talk.specs.Fleet.{Fleet}
 use Rattle.fleet_talk.specs.Said.{IsAdded, IsKept}
@@ -17,14 +17,14 @@ abbrev pub Hands : Talk Global → Option (Chapter Global) → Talk Global → T
 Hands s None t = (s.world.number + 1 ≡ s.world.limits.chapters) × (t ≡ s)
 Hands s (Some chapter) t = (chapter_shown chapter ≡ chapter_in s.world) × IsSound s.world.floor s.world.history × (t ≡ next_talk s)
 
--- a chapter is handed out for this act: it asks for that, or its event needs the room
-abbrev pub Wants : {A : Type 0} → Bool → Fleet A → Act → Type 0
+-- a chapter is handed out for this act: it asks for that, or that is due before its event
+abbrev pub Wants : {A : Type 0} → Option ℕ → Fleet A → Act → Type 0
 Wants roll s (turn mark) = ⊤
-Wants roll s (play mark e) = (roll ≡ true) × NeedsRoom s.talk e
+Wants roll s (play mark e) = IsDue roll s.talk e
 Wants roll s _ = ⊥
 
 -- an act was done, and this was said of it; or a chapter was handed out for it, which is to be kept first, and nothing was said
-abbrev pub Comes : Bool → Fleet Global → Act → Option (Chapter Global) → Pen → Pen → Fleet Global → Type 0
+abbrev pub Comes : Option ℕ → Fleet Global → Act → Option (Chapter Global) → Pen → Pen → Fleet Global → Type 0
 Comes roll s act None old new t = (text : List ℕ) × Does roll s act text t × IsAdded old new text × (beginning t.talk.world ≡ beginning s.talk.world)
 Comes roll s act (Some chapter) old new t = Wants roll s act × Hands s.talk (Some chapter) t.talk × (t.met ≡ s.met) × IsKept old new
 

@@ -10,7 +10,7 @@ use Rattle.fleet_talk.specs.Heard.{heard_lines}
 use Rattle.fleet_talk.specs.Says.{Says}
 
 -- the first of these acts were done, and then came this fault
-pub record TalksUntil {A : Type 0} (fault : TalkFault) (roll : Bool) (s : Fleet A) (acts : List Act) (before after : Option (List ℕ)) (waited waits : List ℕ) : Type 0 where
+pub record TalksUntil {A : Type 0} (fault : TalkFault) (roll : Option ℕ) (s : Fleet A) (acts : List Act) (before after : Option (List ℕ)) (waited waits : List ℕ) : Type 0 where
   pub done : List Act
   pub left : List Act
   pub parts : acts ≡ done ++ left

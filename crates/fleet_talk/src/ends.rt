@@ -16,8 +16,9 @@ use std::io::BufReader;
 pub struct Settings {
     /// Whether the answer to line N ends with a line `. N`.
     pub marks: bool,
-    /// Whether a full chapter is handed out unasked, before an event whose entry has no room in it.
-    pub roll: bool,
+    /// Where a chapter is handed out unasked, the bytes that the text of one may have: before an event whose entry has no
+    /// room, and before one that makes an entry where the text may be as long.
+    pub roll: Option<u64>,
     /// Whether posts to cells that are not roomy for the fleet's robots are refused.
     pub roomy: bool,
 }

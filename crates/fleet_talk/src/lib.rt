@@ -14,6 +14,7 @@ mod input_line;
 mod law;
 mod line_part;
 mod listed;
+mod long;
 mod look;
 mod marks;
 mod open_fleet;

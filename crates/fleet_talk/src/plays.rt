@@ -1,6 +1,6 @@
 //! Events and chapters of a conversation. Nothing here reads, writes or keeps chapters.
 
-ghost use Rattle.std.specs.Prelude.{◌≡◌, ◌≤◌, ℕ, List, length, OnOk, OnErr, IfOk};
+ghost use Rattle.std.specs.Prelude.{◌≡◌, ◌+◌, ◌≤◌, ℕ, List, Some, length, OnOk, OnErr, IfOk};
 ghost use Rattle.fleet_text.specs.Output.{event_text};
 ghost use Rattle.fleet_world.specs.Keeps.{talk};
 ghost use Rattle.fleet_talk.specs.Act.{act_asked, play};
@@ -11,10 +11,12 @@ ghost use Rattle.fleet_talk.specs.Open.{fleet_of};
 ghost use Rattle.fleet_talk.specs.Said.{IsAdded, IsKept, under};
 ghost use Rattle.fleet_talk.specs.Says.{marked};
 ghost use Rattle.fleet_talk.specs.Once.{Comes, GoesOn, Hands};
+ghost use Rattle.fleet_talk.specs.Long.{IsLong};
 
 use crate::ask::{Asked, Line};
 use crate::open_fleet::OpenFleet;
 use crate::pen::Pen;
+use crate::long::is_long;
 use fleet_book::Event;
 use fleet_core::{ChapterFault, ShutFault, TakeFault, TickFault};
 use fleet_history::Chapter;
@@ -23,10 +25,10 @@ use fleet_world::{Reply, Session};
 use std::alloc::{Alloc, AllocError, Global};
 
 /// Whether an event was refused because the chapter has no room for its entry, and may have the chapter handed out.
-fn wants_room(roll: bool, reply: Reply) -> bool
+fn wants_room(roll: Option<u64>, reply: Reply) -> bool
     ensures { result ≡ wants_room roll reply }
 {
-    roll && matches!(
+    roll.is_some() && matches!(
         reply,
         Reply::TakeRefused(TakeFault::ChapterFull)
             | Reply::TickRefused(TickFault::ChapterFull)
@@ -83,16 +85,15 @@ fn play<R: Alloc<A = Global>>(
     tell(rt.alloc(), &fleet.session, pen, mark, event, reply)
 }
 
-/// Does one event and says what is replied, unless it is refused because the chapter is full and that may be handed out
-/// unasked: then the chapter is handed out, nothing is said, and the event is still to be done.
-pub(crate) fn play_here<R: Alloc<A = Global>>(
+/// As `play_here`, where the chapter's text is not too long, or the chapter is the last.
+fn play_if_room<R: Alloc<A = Global>>(
     rt: &R,
     fleet: &mut OpenFleet,
     pen: &mut Pen,
     mark: Option<&[u8]>,
     event: Event,
 ) -> Result<Option<Chapter>, AllocError>
-    requires { 0 ≤ fleet.old.session.world.core.number }
+    requires short { (most : ℕ) → pen.old.settings.roll ≡ Some most → IsLong most (talk fleet.old.session) event → fleet.old.session.world.core.number + 1 ≡ fleet.old.session.world.core.limits.chapters }
     ensures ok { IfOk result (λ handed. Comes pen.old.settings.roll (fleet_of fleet.old) (play (under mark.entry) event) handed pen.old pen.new (fleet_of fleet.new)) }
     ensures err { OnErr result (IsKept pen.old pen.new) }
 {
@@ -109,6 +110,28 @@ pub(crate) fn play_here<R: Alloc<A = Global>>(
             tell(rt.alloc(), &fleet.session, pen, mark, event, reply)?;
             Ok(None)
         }
+    }
+}
+
+/// Does one event and says what is replied, unless the chapter may be handed out unasked, and is full or its text too
+/// long: then it is handed out, nothing is said, and the event is still to be done.
+pub(crate) fn play_here<R: Alloc<A = Global>>(
+    rt: &R,
+    fleet: &mut OpenFleet,
+    pen: &mut Pen,
+    mark: Option<&[u8]>,
+    event: Event,
+) -> Result<Option<Chapter>, AllocError>
+    requires { 0 ≤ fleet.old.session.world.core.number }
+    ensures ok { IfOk result (λ handed. Comes pen.old.settings.roll (fleet_of fleet.old) (play (under mark.entry) event) handed pen.old pen.new (fleet_of fleet.new)) }
+    ensures err { OnErr result (IsKept pen.old pen.new) }
+{
+    if !is_long(&fleet.session, pen.settings.roll, event) {
+        return play_if_room(rt, fleet, pen, mark, event);
+    }
+    match hand_out(&mut fleet.session)? {
+        Some(chapter) => Ok(Some(chapter)),
+        None => play_if_room(rt, fleet, pen, mark, event),
     }
 }
 

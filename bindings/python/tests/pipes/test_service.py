@@ -328,6 +328,24 @@ class ServiceTest(KeptChaptersTest):
             said = self.run_program(["live", "--robots", "0", "--chapter-bytes", word, self.map], "")
             self.assertEqual(said, ("", "error: invalid value for '--chapter-bytes <N>'\n", 2))
 
+    def test_chapters_of_a_conversation_by_size(self):
+        robots = self.many_robots().replace(",", " ")
+        words = ["talk", "--roll", "--chapter-bytes", "1048576", "--traces", self.traces, self.map]
+        said = self.run_program(words, f"robots {robots}\ntick 1500\n")
+        self.assertEqual(said[1:], ("", 0))
+        sizes = [(self.traces / name).stat().st_size for name in self.chapters()]
+        self.assertGreater(len(sizes), 3)
+        for size in sizes[:-1]:
+            # a cell of two to four digits and a comma is counted as eight bytes
+            self.assertTrue(300000 < size <= 1048576, sizes)
+        told = [line for line in said[0].splitlines() if line.startswith("chapter ")]
+        self.assertEqual(len(told), len(sizes) - 1)
+        for word in ("1048575", "1073741825", "64MiB", ""):
+            said = self.run_program(["talk", "--roll", "--chapter-bytes", word, self.map], "robots 0\n")
+            self.assertEqual(said, ("", "error: invalid value for '--chapter-bytes <N>'\n", 2))
+        said = self.run_program(["talk", "--chapter-bytes", "1048576", self.map], "robots 0\n")
+        self.assertEqual(said, ("", "error: '--chapter-bytes' needs '--roll'\n", 2))
+
 
 if __name__ == "__main__":
     unittest.main()

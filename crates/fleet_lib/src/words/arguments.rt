@@ -30,6 +30,13 @@ pub(crate) const TRACES: Argument<'static> = Argument {
     help: "Write each chapter into this folder, as chapter-N.json",
 };
 
+/// How long the text of a chapter may be.
+pub(crate) const CHAPTER_BYTES: Argument<'static> = Argument {
+    name: "chapter-bytes",
+    kind: Kind::Value("N"),
+    help: "Begin the next chapter where the text of one reaches this many bytes, 67108864 if not given",
+};
+
 /// To go on, and never to begin anew.
 pub(crate) const RESUME_ONLY: Argument<'static> = Argument {
     name: "resume-only",

@@ -4,7 +4,7 @@ ghost use Rattle.std.specs.Prelude.{◌≡◌, IfOk};
 ghost use Rattle.clap.specs.Words.{found_of, rows_of};
 ghost use Rattle.fleet_lib.specs.Asked.{IsLive};
 
-use crate::words::arguments::{MAP, RESUME, RESUME_ONLY, ROOMY, SCRIPT, TRACES};
+use crate::words::arguments::{CHAPTER_BYTES, MAP, RESUME, RESUME_ONLY, ROOMY, SCRIPT, TRACES};
 use clap::ArgMatches;
 use command_words::{Argument, Kind, Word, has_flag, some_word_for, some_words_for, word_for};
 use std::alloc::{AllocError, Global};
@@ -97,11 +97,7 @@ pub(crate) const LIVE: Word<'static> = Word {
             kind: Kind::Value("TIME"),
             help: "Write a chapter at least so often, as 10s",
         },
-        Argument {
-            name: "chapter-bytes",
-            kind: Kind::Value("N"),
-            help: "Begin the next chapter where the text of one reaches this many bytes, 67108864 if not given",
-        },
+        CHAPTER_BYTES,
         Argument {
             name: "metrics",
             kind: Kind::Value("FILE"),

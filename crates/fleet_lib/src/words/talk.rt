@@ -4,7 +4,7 @@ ghost use Rattle.std.specs.Prelude.{◌≡◌, IfOk};
 ghost use Rattle.clap.specs.Words.{found_of, rows_of};
 ghost use Rattle.fleet_lib.specs.Asked.{IsTalk};
 
-use crate::words::arguments::{MAP, RESUME, RESUME_ONLY, ROOMY, SCRIPT, TRACES};
+use crate::words::arguments::{CHAPTER_BYTES, MAP, RESUME, RESUME_ONLY, ROOMY, SCRIPT, TRACES};
 use clap::ArgMatches;
 use command_words::{Argument, Kind, Word, has_flag, some_word_for, word_for};
 use std::alloc::{AllocError, Global};
@@ -25,11 +25,13 @@ pub struct Talk {
     pub marks: bool,
     /// Whether full chapters are handed out unasked.
     pub roll: bool,
+    /// The bytes that the text of one may have then.
+    pub chapter_bytes: Option<String>,
     /// Whether posts to cells that are not roomy are refused.
     pub roomy: bool,
 }
 
-/// `talk [--marks] [--roll] [--roomy] [--traces DIR] [--resume] [--resume-only] MAP [SCRIPT]`.
+/// `talk [--marks] [--roll] [--chapter-bytes N] [--roomy] [--traces DIR] [--resume] [--resume-only] MAP [SCRIPT]`.
 pub(crate) const TALK: Word<'static> = Word {
     name: "talk",
     about: "Talks to a fleet: answers each line of standard input as soon as it is read",
@@ -43,8 +45,9 @@ pub(crate) const TALK: Word<'static> = Word {
         Argument {
             name: "roll",
             kind: Kind::Flag,
-            help: "Begin the next chapter where one is full",
+            help: "Begin the next chapter where one is full, or its text long",
         },
+        CHAPTER_BYTES,
         ROOMY,
         TRACES,
         RESUME,
@@ -61,6 +64,7 @@ pub(crate) fn talk_in(alloc: Global, matches: &ArgMatches<'_>) -> Result<Talk, A
     let map = word_for(alloc, matches, "MAP")?;
     let script = some_word_for(alloc, matches, "SCRIPT")?;
     let traces = some_word_for(alloc, matches, "traces")?;
+    let chapter_bytes = some_word_for(alloc, matches, "chapter-bytes")?;
     Ok(Talk {
         map,
         script,
@@ -69,6 +73,7 @@ pub(crate) fn talk_in(alloc: Global, matches: &ArgMatches<'_>) -> Result<Talk, A
         resume_only: has_flag(matches, "resume-only"),
         marks: has_flag(matches, "marks"),
         roll: has_flag(matches, "roll"),
+        chapter_bytes,
         roomy: has_flag(matches, "roomy"),
     })
 }

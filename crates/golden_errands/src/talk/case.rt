@@ -18,10 +18,24 @@ pub(crate) struct Case<'a> {
     pub(crate) talk: Conversation<'a>,
     pub(crate) map: &'a [u8],
     pub(crate) marks: bool,
-    pub(crate) roll: bool,
+    /// Where full chapters are handed out unasked, the bytes that the text of one may have.
+    pub(crate) roll: Option<u64>,
     pub(crate) roomy: bool,
     pub(crate) has_trials: bool,
     pub(crate) lines: &'a [u8],
+}
+
+/// Where chapters are handed out unasked, the bytes that the text of one may have: by an option `+ bytes N`, and 64 MiB by
+/// `+ roll`.
+fn most_bytes(talk: Conversation<'_>) -> Option<u64> {
+    match talk.after(b"+ bytes ") {
+        Some(word) => str::from_utf8(word).ok()?.parse().ok(),
+        None => if talk.has(b"+ roll") {
+            Some(64 << 20)
+        } else {
+            None
+        },
+    }
 }
 
 impl<'a> Case<'a> {
@@ -43,7 +57,7 @@ impl<'a> Case<'a> {
             talk,
             map,
             marks: talk.has(b"+ marks"),
-            roll: talk.has(b"+ roll"),
+            roll: most_bytes(talk),
             roomy: talk.has(b"+ roomy"),
             has_trials: talk.has(b"+ trials"),
             lines,

@@ -15,7 +15,8 @@ use Rattle.fleet_talk.specs.Open.{fleet_of}
 use Rattle.fleet_talk.specs.Talked.{TalksUntil}
 use Rattle.fleet_talk.proofs.Onward.{goes-none, goes-fault, goes-over, goes-broken, goes-unwritten, goes-unread, goes-end, goes-more}
 use Rattle.fleet_talk.proofs.Saying.{at-fault}
-use Rattle.fleet_talk.proofs.Keeping.{keeps-same, keeps-then}
+use Rattle.fleet_bridge.specs.Roominess.{AreRoomyFor}
+use Rattle.fleet_talk.proofs.Keeping.{keeps-same, keeps-then, known-still}
 use Rattle.fleet_talk.proofs.going.go_on.Goals as goal
 
 pub loop-number-init : goal.loop-number-init
@@ -70,3 +71,8 @@ loop-number-preserved g c =
 
 pub returns-clause-broken : goal.returns-clause-broken
 returns-clause-broken g c = goes-fault c.args.pen.now.settings c.args.entrance.door.now.refused.marks.items (fleet_of c.args.fleet.now) (λ xs. acts_from c.args.pen.now.settings c.args.entrance.door.now.refused.marks.items c.args.entrance.first (c.args.bytes.now.items ∷ heard_lines xs)) (reader_remaining g.I.Read.remaining c.args.ends.now.input) (reader_remaining g.I.Read.remaining c.loop-number.ends.input) (fleet_of c.loop-number.fleet) c.loop-number.number c.loop-number.bytes.items (g.W.Write.contents c.args.ends.now.output) (g.W.Write.contents c.loop-number.ends.output) c.args.pen.now.out.items c.loop-number.pen.out.items c.loop-number.invariant.goes Input tt
+
+pub answer-requires : goal.answer-requires
+answer-requires g c =
+    subst (λ (xs : List ℕ). AreRoomyFor c.loop-number.fleet.session.world.core.floor xs) (sym c.deref-in-loop-number.ensures.value)
+    (known-still (g.S.ChapterSink.kept c.args.ends.now.sink) (g.S.ChapterSink.kept c.loop-number.ends.sink) (talk c.args.fleet.now.session) (talk c.loop-number.fleet.session) c.args.entrance.door.now.roominess.items c.loop-number.invariant.kept c.requires)

@@ -7,14 +7,14 @@ use Rattle.fleet_talk.specs.Said.{under}
 use Rattle.fleet_talk.proofs.Keeping.{step-beginning}
 use Rattle.fleet_talk.proofs.Onces.{comes-handed, hands-none}
 use Rattle.fleet_talk.proofs.Rolling.{plays-here, plays-last}
-use Rattle.fleet_talk.proofs.plays.play_here.Goals as goal
+use Rattle.fleet_talk.proofs.plays.play_if_room.Goals as goal
 
 pub returns-then-not-wants_room-clause-ok : goal.returns-then-not-wants_room-clause-ok
 returns-then-not-wants_room-clause-ok g c =
     let mid = talk c.step.new.self in
     let (text, does, added) =
     plays-here c.args.pen.now.settings.roll (fleet_of c.args.fleet.now) (record { talk = mid; met = c.args.fleet.now.limited || c.is_limit_met.result }) (under c.args.mark) c.args.event c.in_ok-reply.reply c.args.pen.now c.tell.new.pen
-    c.in_ok-reply.ensures.step (ap (λ b. c.args.fleet.now.limited || b) c.is_limit_met.ensures.value) (sym c.wants_room.ensures ∙ c.if-not-wants_room.true) c.in_ok-tell.ensures.ok
+    c.in_ok-reply.ensures.step (ap (λ b. c.args.fleet.now.limited || b) c.is_limit_met.ensures.value) (sym c.wants_room.ensures ∙ c.if-not-wants_room.true) c.requires.short c.in_ok-tell.ensures.ok
     in
     (text, does, added, step-beginning (talk c.args.fleet.now.session) mid c.args.event c.in_ok-reply.reply c.in_ok-reply.ensures.step)
 

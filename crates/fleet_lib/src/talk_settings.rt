@@ -1,0 +1,59 @@
+//! How a conversation is held, by the words of `talk`.
+
+ghost use Rattle.std.specs.Prelude.{◌≡◌, ◌≢◌, ◌≤◌, ◌<◌, ◌⊎◌, ℕ, Err, None, Some, true, false, IfOk, IfSome, string_bytes};
+ghost use Rattle.fleet_map.specs.Text.{number_of};
+
+use crate::chapter_bytes::chapter_bytes_in;
+use crate::words::Talk;
+use fleet_talk::Settings;
+use fleet_text::write_whole;
+use std::io::Write;
+
+/// What is wrong with the words of `talk`.
+#[derive(Clone, Copy, Debug, PartialEq, Eq)]
+pub enum TalkWordFault {
+    /// `--chapter-bytes` without `--roll`.
+    NoRoll,
+    /// `--chapter-bytes` with no number from 1 MiB to 1 GiB.
+    ChapterBytes,
+}
+
+/// How the conversation is held that these words ask for. Refused in this order: a length of chapters where none is handed
+/// out unasked, a length that is no number from 1 MiB to 1 GiB.
+pub fn talk_settings(talk: &Talk) -> Result<Settings, TalkWordFault>
+    ensures marks { IfOk result (λ s. s.marks ≡ talk.now.marks) }
+    ensures roomy { IfOk result (λ s. s.roomy ≡ talk.now.roomy) }
+    ensures stays { IfOk result (λ s. talk.now.roll ≡ false → s.roll ≡ None) }
+    ensures plain { IfOk result (λ s. talk.now.roll ≡ true → talk.now.chapter_bytes ≡ None → s.roll ≡ Some 67108864) }
+    ensures bytes { IfOk result (λ s. talk.now.roll ≡ true → IfSome talk.now.chapter_bytes (λ text. number_of (string_bytes text) ≡ s.roll)) }
+    ensures no_roll { result ≡ Err TalkWordFault.NoRoll → (talk.now.roll ≡ false) × (talk.now.chapter_bytes ≢ None) }
+    ensures refused { result ≡ Err TalkWordFault.ChapterBytes → IfSome talk.now.chapter_bytes (λ text. (n : ℕ) → number_of (string_bytes text) ≡ Some n → (n < 1048576) ⊎ (1073741824 < n)) }
+{
+    let roll = if talk.roll {
+        match chapter_bytes_in(&talk.chapter_bytes) {
+            Some(most) => Some(most),
+            None => return Err(TalkWordFault::ChapterBytes),
+        }
+    } else if talk.chapter_bytes.is_some() {
+        return Err(TalkWordFault::NoRoll);
+    } else {
+        None
+    };
+    Ok(Settings {
+        marks: talk.marks,
+        roll,
+        roomy: talk.roomy,
+    })
+}
+
+/// Prints what is wrong with the words. Returns the status.
+pub fn complain_of_talk<E: Write>(fault: TalkWordFault, error: &mut E) -> u8
+    ensures { result ≡ 2 }
+{
+    let text = match fault {
+        TalkWordFault::NoRoll => "error: '--chapter-bytes' needs '--roll'\n",
+        TalkWordFault::ChapterBytes => "error: invalid value for '--chapter-bytes <N>'\n",
+    };
+    write_whole(error, text.as_bytes());
+    2
+}
