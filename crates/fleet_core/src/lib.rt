@@ -20,6 +20,7 @@ mod robot_hooks;
 mod roomy;
 mod stamps;
 mod tick_draft;
+mod under_way;
 mod waits;
 mod world;
 mod world_opening;
