@@ -10,6 +10,7 @@ Answers as `fleet talk` does: output, error text, status. With --resume the flee
 chapters are handed out unasked, or None; `kept` is the name of a chapter's file, its number and
 its text. The error text begins with the warning that cells are not roomy, if there is one. Standard library only.
 """
+import functools
 import os
 import re
 import sys
@@ -23,6 +24,19 @@ DEFAULTS = {"life": 2 ** 40, "orders": 2 ** 62, "clock": 2 ** 48, "chapters": mo
 HEADERS = {"robots", "clients", "ties", "turns"} | set(model.LIMIT_DEFAULTS)
 
 
+def blocked_cell(w):
+    """The cell next to the eldest robot that is nearer to its goal, if it is beyond a bridge and a robot stands on each cell there; else None."""
+    eldest = w.eldest()
+    if eldest is None:
+        return None
+    floor = floor_of(w.grid)
+    cell, goal = w.place[eldest], w.queues[eldest][0][2]
+    for near in floor.near(cell):
+        if floor.dist(near, goal) < floor.dist(cell, goal) and floor.bridge(cell, near) and floor.side(cell, near) <= set(w.place):
+            return near
+    return None
+
+
 def look_line(w, unroomy=None):
     """The line of a look at a world on whose map these cells are not roomy for its robots; without them, of a map with bridges no limit is told."""
     eldest, within = w.eldest(), None
@@ -32,6 +46,8 @@ def look_line(w, unroomy=None):
     told = f"look tick {w.ticks} chapter {w.number} entries {len(w.entries)} {state}"
     if within is not None:
         told += f" within {within}"
+    if (blocked := blocked_cell(w)) is not None:
+        told += f" blocked {blocked}"
     return told + " at " + " ".join(map(str, w.place))
 
 
@@ -268,9 +284,15 @@ def new_rings(w):
 
 def unroomy_cells(grid, robots):
     """The floor cells that are not roomy for so many robots, by definition."""
-    letters = grid.cells.decode("latin-1")
-    floor = laws.Map([letters[at:at + grid.width] for at in range(0, len(letters), grid.width)])
+    floor = floor_of(grid)
     return floor.floor - floor.roomy(robots)
+
+
+@functools.lru_cache(maxsize=4)
+def floor_of(grid):
+    """The grid as the laws see it, with what they know of it."""
+    letters = grid.cells.decode("latin-1")
+    return laws.Map([letters[at:at + grid.width] for at in range(0, len(letters), grid.width)])
 
 
 def open_count(world):

@@ -1,1 +1,3 @@
 mod Marking
+mod Fullness
+mod Nearness

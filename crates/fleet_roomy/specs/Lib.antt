@@ -1,1 +1,2 @@
 pub mod Unroomy
+pub mod inside

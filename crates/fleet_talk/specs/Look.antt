@@ -1,10 +1,13 @@
 -- How a fleet stands, as a look prints it.
-use Rattle.std.specs.Prelude.{◌≡◌, ◌↔◌, ℕ, List, length, Option, IsSome, IfSome, MatchOption}
+use Rattle.std.specs.Prelude.{◌≡◌, ◌↔◌, ℕ, List, length, slice_index, Option, Some, None, IsSome, IfSome, MatchOption}
 use Rattle.fleet_bound.specs.Idle.{idle_ticks, longest_after}
 use Rattle.fleet_bound.specs.Roomy.{AreOpenRoomy}
 use Rattle.fleet_grid.specs.Counts.{floor_count}
-use Rattle.fleet_history.specs.History.{clock, robots, place}
+use Rattle.fleet_history.specs.History.{clock, front, robots, place}
+use Rattle.fleet_pibt.specs.Advancing.{HasWayAhead, IsFullBeyond}
 use Rattle.fleet_pibt.specs.Eldest.{IsEldest}
+use Rattle.fleet_pibt.specs.Goals.{IsNearer}
+use Rattle.fleet_queue.specs.declared.errand.Errand.{Errand}
 use Rattle.fleet_planner.specs.Aimed.{IsIdle}
 use Rattle.fleet_planner.specs.Planned.{waits}
 use Rattle.fleet_core.specs.Core.{World}
@@ -12,8 +15,15 @@ use Rattle.fleet_text.specs.Answers.{look_line}
 use Rattle.fleet_text.specs.declared.look.Standing.{Standing}
 
 -- how it stands
-abbrev pub standing_of : {A : Type 0} → World A → Option ℕ → Option ℕ → Standing
-standing_of w eldest within = record { tick = clock w.history; chapter = w.number; entries = length w.history.entries; eldest = eldest; within = within }
+abbrev pub standing_of : {A : Type 0} → World A → Option ℕ → Option ℕ → Option ℕ → Standing
+standing_of w eldest within blocked = record { tick = clock w.history; chapter = w.number; entries = length w.history.entries; eldest = eldest; within = within; blocked = blocked }
+
+-- the eldest robot's way is free, or it leads over a bridge to this cell, and a robot stands on each cell beyond
+pub record IsBlocked {A : Type 0} (w : World A) (eldest : Option ℕ) (blocked : Option ℕ) : Type 0 where
+  pub idle : eldest ≡ None → blocked ≡ None
+  pub way : (e : ℕ) (errand : Errand) → eldest ≡ Some e → front w.history e ≡ Some errand → MatchOption blocked
+      (HasWayAhead w.floor (place w.history) errand.cell (slice_index (place w.history) e))
+      (λ c. IsNearer w.floor errand.cell c (slice_index (place w.history) e) × IsFullBeyond w.floor (place w.history) (slice_index (place w.history) e) c)
 
 -- the line of a look at this world
 pub record IsLook {A : Type 0} (w : World A) (text : List ℕ) : Type 0 where
@@ -22,4 +32,6 @@ pub record IsLook {A : Type 0} (w : World A) (text : List ℕ) : Type 0 where
   pub within : Option ℕ
   pub told : IsSome within ↔ AreOpenRoomy w.floor w.history
   pub ticks : IfSome within (λ ticks. ticks ≡ idle_ticks (longest_after w.history) (robots w.history) (floor_count w.floor))
-  pub is : text ≡ look_line (standing_of w eldest within) (place w.history)
+  pub blocked : Option ℕ
+  pub ahead : IsBlocked w eldest blocked
+  pub is : text ≡ look_line (standing_of w eldest within blocked) (place w.history)

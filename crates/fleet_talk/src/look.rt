@@ -1,12 +1,33 @@
 //! How the fleet stands.
 
-ghost use Rattle.std.specs.Prelude.{IfOk, string_bytes};
+ghost use Rattle.std.specs.Prelude.{◌≡◌, ◌<◌, ℕ, Some, IfOk, length, string_bytes};
 ghost use Rattle.fleet_bridge.specs.Roominess.{AreRoomyFor};
-ghost use Rattle.fleet_talk.specs.Look.{IsLook};
+ghost use Rattle.fleet_history.specs.History.{place, robots};
+ghost use Rattle.fleet_talk.specs.Look.{IsBlocked, IsLook};
 
 use fleet_core::World;
+use fleet_roomy::blocked_at;
 use fleet_text::{Standing, look_line};
 use std::alloc::{AllocError, Global};
+
+/// Where the eldest robot stands before a dead end that is full of robots, the cell next to it there.
+fn blocked_ahead(
+    alloc: Global,
+    world: &World,
+    eldest: Option<u32>,
+) -> Result<Option<u32>, AllocError>
+    requires known { (e : ℕ) → eldest ≡ Some e → e < robots world.now.core.history }
+    requires there { (e : ℕ) → eldest ≡ Some e → e < length (place world.now.core.history) }
+    ensures { IfOk result (IsBlocked world.now.core eldest) }
+{
+    let Some(robot) = eldest else {
+        return Ok(None);
+    };
+    let Some(errand) = world.front(robot) else {
+        return Ok(None);
+    };
+    blocked_at(alloc, world.grid(), world.placement(), robot, errand.cell)
+}
 
 /// The line of a look at the world, by what `fleet_bridge::roominess` returned for its map.
 pub(crate) fn look_text(
@@ -18,12 +39,14 @@ pub(crate) fn look_text(
     ensures { IfOk result (λ text. IsLook world.now.core (string_bytes text)) }
 {
     let chapter = world.chapter();
+    let eldest = world.eldest();
     let standing = Standing {
         tick: world.clock(),
         chapter: chapter.number,
         entries: chapter.entries.len(),
-        eldest: world.eldest(),
+        eldest,
         within: world.roomy_within(roominess),
+        blocked: blocked_ahead(alloc, world, eldest)?,
     };
     look_line(alloc, standing, world.placement())
 }

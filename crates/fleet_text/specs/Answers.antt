@@ -71,10 +71,14 @@ abbrev pub within_text : Option ℕ → List ℕ
 within_text None = []
 within_text (Some ticks) = codes " within " ++ decimal ticks
 
+abbrev pub blocked_text : Option ℕ → List ℕ
+blocked_text None = []
+blocked_text (Some cell) = codes " blocked " ++ decimal cell
+
 -- the ticks made, the chapter's number and how many entries it has
 abbrev pub standing_text : Standing → List ℕ
 standing_text s = codes "look tick " ++ decimal s.tick ++ codes " chapter " ++ decimal s.chapter ++ codes " entries " ++ decimal s.entries
 
--- then who has waited longest, within how many ticks all is done, and the cells
+-- then who has waited longest, within how many ticks all is done, before which full dead end it stands, and the cells
 abbrev pub look_line : Standing → List ℕ → List ℕ
-look_line s cells = standing_text s ++ eldest_text s.eldest ++ within_text s.within ++ codes " at" ++ place_text cells ++ codes "\n"
+look_line s cells = standing_text s ++ eldest_text s.eldest ++ within_text s.within ++ blocked_text s.blocked ++ codes " at" ++ place_text cells ++ codes "\n"

@@ -17,6 +17,7 @@ pub fn look_text(alloc: Global, look: &Look) -> Result<String, AllocError>
         entries: look.entries as usize,
         eldest: look.eldest,
         within: look.idle_within,
+        blocked: None,
     };
     look_line(alloc, standing, &look.placement)
 }
