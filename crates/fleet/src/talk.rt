@@ -8,7 +8,8 @@ use crate::folder::{Start, complain_of_folder, hold_folder, tell_start};
 use crate::kept_file::KeptFile;
 use crate::troubles::Troubles;
 use fleet_lib::{
-    ChapterSink, Ends, InputFault, Settings, Talk, TalkTexts, complain_of_talk, fail, run_talk, talk_settings,
+    ChapterSink, Ends, InputFault, Settings, Talk, TalkTexts, complain_of_talk, fail, run_talk,
+    talk_settings,
 };
 use std::alloc::{Alloc, AllocError, Global};
 use std::fs::{File, Files};

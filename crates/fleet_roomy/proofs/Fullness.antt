@@ -118,7 +118,6 @@ module _ (m : Floor) (cells : List ℕ) (u v : ℕ) where
       none zero = refl
       none (suc i) = count_by-cons (replicate i false) ∙ none i
 
-
   -- the robot on the first cell beyond the edge is found
   pub start-found : (n first : ℕ) (seen : List Bool) (robots : List ℕ) → n ≡ length cells → first < length cells → get_or cells first 0 ≡ v → u ≢ v
       → seen ≡ set (replicate n false) first true → robots ≡ first ∷ [] → AreFound m cells u v seen robots × Has cells robots v

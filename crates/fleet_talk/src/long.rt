@@ -45,9 +45,10 @@ fn tick_bytes(robots: u64) -> u64
 fn errand_count(robots: &[RobotState]) -> u64
     ensures { result ≡ errand_count robots.now }
 {
-    robots
-        .iter()
-        .fold(0, |sum: u64, robot| sum.saturating_add(robot.errands.len() as u64))
+    robots.iter().fold(
+        0,
+        |sum: u64, robot| sum.saturating_add(robot.errands.len() as u64),
+    )
 }
 
 /// No less than the bytes of the chapter's text.

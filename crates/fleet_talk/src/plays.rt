@@ -14,9 +14,9 @@ ghost use Rattle.fleet_talk.specs.Once.{Comes, GoesOn, Hands};
 ghost use Rattle.fleet_talk.specs.Long.{IsLong};
 
 use crate::ask::{Asked, Line};
+use crate::long::is_long;
 use crate::open_fleet::OpenFleet;
 use crate::pen::Pen;
-use crate::long::is_long;
 use fleet_book::Event;
 use fleet_core::{ChapterFault, ShutFault, TakeFault, TickFault};
 use fleet_history::Chapter;
@@ -28,12 +28,13 @@ use std::alloc::{Alloc, AllocError, Global};
 fn wants_room(roll: Option<u64>, reply: Reply) -> bool
     ensures { result ≡ wants_room roll reply }
 {
-    roll.is_some() && matches!(
-        reply,
-        Reply::TakeRefused(TakeFault::ChapterFull)
-            | Reply::TickRefused(TickFault::ChapterFull)
-            | Reply::ShutRefused(ShutFault::ChapterFull)
-    )
+    roll.is_some()
+        && matches!(
+            reply,
+            Reply::TakeRefused(TakeFault::ChapterFull)
+                | Reply::TickRefused(TickFault::ChapterFull)
+                | Reply::ShutRefused(ShutFault::ChapterFull)
+        )
 }
 
 /// Hands out the chapter, unless it is the last.

@@ -17,16 +17,16 @@ pub returns-clause-free : goal.returns-clause-free
 returns-clause-free g c =
     IfOk-weaker c.full_ahead.result _ _
     (λ found none is w near nearer full.
-        let (dir, beside) = near in
-        none is dir w beside ((c.ways.ensures dir w beside).1 ((less-is-nearer c.args.grid.now c.args.goal c.in_ok-field.field c.in_ok-field.ensures w (slice_index c.args.cells.now c.args.robot)).1 nearer)) full)
+    let (dir, beside) = near in
+    none is dir w beside ((c.ways.ensures dir w beside).1 ((less-is-nearer c.args.grid.now c.args.goal c.in_ok-field.field c.in_ok-field.ensures w (slice_index c.args.cells.now c.args.robot)).1 nearer)) full)
     c.full_ahead.ensures.none
 
 pub returns-clause-blocked : goal.returns-clause-blocked
 returns-clause-blocked g c =
     IfOk-weaker c.full_ahead.result _ _
     (λ found some. some-weaker found _ _
-        (λ w is.
-            let (dir, beside, way, full) = is in
-            ((dir, beside), (less-is-nearer c.args.grid.now c.args.goal c.in_ok-field.field c.in_ok-field.ensures w (slice_index c.args.cells.now c.args.robot)).0 ((c.ways.ensures dir w beside).0 way), full))
-        some)
+    (λ w is.
+    let (dir, beside, way, full) = is in
+    ((dir, beside), (less-is-nearer c.args.grid.now c.args.goal c.in_ok-field.field c.in_ok-field.ensures w (slice_index c.args.cells.now c.args.robot)).0 ((c.ways.ensures dir w beside).0 way), full))
+    some)
     c.full_ahead.ensures.some

@@ -16,8 +16,8 @@ loop-at-init g c =
 pub returns-then-at-len : goal.returns-then-at-len
 returns-then-at-len g c = (
   λ _.
-  full-beyond c.args.grid.now c.args.cells.now c.args.from c.args.to c.loop-at.found.seen.items c.loop-at.found.robots.items c.loop-at.invariant.found c.loop-at.invariant.start c.requires
-  (λ k within. c.loop-at.invariant.closed k (omega (arith, within, c.if-at-len.true))),
+      full-beyond c.args.grid.now c.args.cells.now c.args.from c.args.to c.loop-at.found.seen.items c.loop-at.found.robots.items c.loop-at.invariant.found c.loop-at.invariant.start c.requires
+      (λ k within. c.loop-at.invariant.closed k (omega (arith, within, c.if-at-len.true))),
   λ _. refl,
 )
 
@@ -34,7 +34,7 @@ loop-at-preserved g c = record {
 pub returns : goal.returns
 returns g c = (
   λ _.
-  full-beyond c.args.grid.now c.args.cells.now c.args.from c.args.to c.loop-at.found.seen.items c.loop-at.found.robots.items c.loop-at.invariant.found c.loop-at.invariant.start c.requires
-  (λ k within. c.loop-at.invariant.closed k (omega (arith, within, c.loop-at-test.false, c.loop-at.auto.at-end, few-found c.args.grid.now c.args.cells.now c.args.from c.args.to c.loop-at.found.seen.items c.loop-at.found.robots.items c.loop-at.invariant.found))),
+      full-beyond c.args.grid.now c.args.cells.now c.args.from c.args.to c.loop-at.found.seen.items c.loop-at.found.robots.items c.loop-at.invariant.found c.loop-at.invariant.start c.requires
+      (λ k within. c.loop-at.invariant.closed k (omega (arith, within, c.loop-at-test.false, c.loop-at.auto.at-end, few-found c.args.grid.now c.args.cells.now c.args.from c.args.to c.loop-at.found.seen.items c.loop-at.found.robots.items c.loop-at.invariant.found))),
   λ _. refl,
 )
