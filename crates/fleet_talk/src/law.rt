@@ -1,6 +1,6 @@
 //! Laws of conversations. The functions do nothing.
 
-ghost use Rattle.std.specs.Prelude.{◌≡◌, ℕ, Bool, false, List, map, None, Ok, IfSome};
+ghost use Rattle.std.specs.Prelude.{◌≡◌, ℕ, Bool, List, map, None, Ok, IfSome};
 ghost use Rattle.std.specs.List.{list_any};
 ghost use Rattle.std.specs.declared.alloc.Global.{Global};
 ghost use Rattle.fleet_grid.specs.Floor.{Floor};
@@ -27,7 +27,7 @@ ghost use Rattle.fleet_talk.specs.Heard.{AreShort, head_of};
 /// for the same events from the same opening, ends in the same world, and meets a limit exactly if the run does.
 pub fn a_conversation_is_a_run<A>()
     ensures { (m : Floor) (starts : List ℕ) (clients : ℕ) (limits : Limits) (laws : HookLaws) (events : List Event) (text : List ℕ) (t : Fleet A) →
-        CanOpen m starts clients limits laws → AreOrderly laws → Talks false (opened_fleet (opened_talk m starts clients limits laws)) (map (play None) events) text t →
+        CanOpen m starts clients limits laws → AreOrderly laws → Talks None (opened_fleet (opened_talk m starts clients limits laws)) (map (play None) events) text t →
         (replies : List Reply) × (last : State A) × Run (opened_state m starts clients limits laws) events replies last × (forget last ≡ t.talk)
         × (t.met ≡ list_any is_limit_met replies) × (text ≡ run_text events replies last.world.history.entries) }
 {}

@@ -127,13 +127,12 @@ pub(crate) fn play_here<R: Alloc<A = Global>>(
     ensures ok { IfOk result (λ handed. Comes pen.old.settings.roll (fleet_of fleet.old) (play (under mark.entry) event) handed pen.old pen.new (fleet_of fleet.new)) }
     ensures err { OnErr result (IsKept pen.old pen.new) }
 {
-    if !is_long(&fleet.session, pen.settings.roll, event) {
-        return play_if_room(rt, fleet, pen, mark, event);
+    if is_long(&fleet.session, pen.settings.roll, event) {
+        if let Some(chapter) = hand_out(&mut fleet.session)? {
+            return Ok(Some(chapter));
+        }
     }
-    match hand_out(&mut fleet.session)? {
-        Some(chapter) => Ok(Some(chapter)),
-        None => play_if_room(rt, fleet, pen, mark, event),
-    }
+    play_if_room(rt, fleet, pen, mark, event)
 }
 
 /// As `turned`, but where memory runs out, part of the answer may have been said.
