@@ -92,6 +92,6 @@ script-run kit m bytes text chapters met plan read short named conv = by conv
         (subst (λ (t : List ℕ). IsRunOf m plan t last.met plan.starts plan.clients plan.limits (chosen_laws kit plan)) (sym told) (talked_run kit m plan answers o last starts of names may2 cells acts talks2))
 
     by : IsConversation (plain_terms kit m) bytes text chapters met → IsRunOf m plan text met plan.starts plan.clients plan.limits (chosen_laws kit plan)
-    by (unopened at said kept unmet) = begins [] (λ c. refl) (heard_script false [] (λ c. refl) bytes plan short read) at said unmet
+    by (unopened at said kept unmet) = begins [] (λ c. refl) (heard_script None [] (λ c. refl) bytes plan short read) at said unmet
     by (talked o at may cells refuses answers last talks said kept limited) =
-        talks_on o at may cells (none_refused o cells refuses) answers last talks said limited (heard_script false cells (none_refused o cells refuses) bytes plan short read)
+        talks_on o at may cells (none_refused o cells refuses) answers last talks said limited (heard_script None cells (none_refused o cells refuses) bytes plan short read)
