@@ -18,7 +18,7 @@ mod plan_trace;
 mod said;
 mod stats;
 mod talk;
-mod talk_settings;
+mod talk_words;
 mod view;
 mod words;
 
@@ -43,7 +43,7 @@ pub use plan_trace::{Traced, answer_trace, as_trace};
 pub use said::{Said, fail, tell};
 pub use stats::answer_stats;
 pub use talk::{TalkTexts, run_talk};
-pub use talk_settings::{TalkWordFault, complain_of_talk, talk_settings};
+pub use talk_words::{TalkWordFault, complain_of_talk, talk_settings};
 pub use view::{MOST_TRACE_BYTES, answer_view};
 pub use words::{
     Check, Convert, Explain, Figures, FormAsked, Job, Judge, Live, MapJob, Shown, Stats, Talk,
