@@ -1,5 +1,5 @@
 -- What an execution keeps, as functions of robots, steps and cells.
-use Rattle.std.specs.Prelude.{ℕ, zero, suc, List, Option, Some, None}
+use Rattle.std.specs.Prelude.{◌≡◌, ℕ, zero, suc, List, Option, Some, None}
 use Rattle.execution_law.specs.declared.clearance.Clearance.{Clearance}
 use Rattle.fleet_execution.specs.declared.robot.Robot.{Robot}
 use Rattle.fleet_execution.specs.declared.robot.Leave.{Leave}
@@ -19,6 +19,11 @@ pub record Desk : Type 0 where
   pub leave : ℕ → Option Leave
   pub ready : List ℕ
   pub turning : Option Turning
+
+-- the map and the window stay
+pub record HasSameBounds (d e : Desk) : Type 0 where
+  pub cells : e.cells ≡ d.cells
+  pub ahead : e.ahead ≡ d.ahead
 
 abbrev pub leaver : Option Leave → ℕ → ℕ
 leaver None r = r
