@@ -27,3 +27,4 @@ mod Looking
 mod Left
 mod Few
 mod Checking
+mod Fewer

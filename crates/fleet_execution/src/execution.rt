@@ -7,7 +7,7 @@ ghost use Rattle.fleet_execution.specs.Executes.{Executes, AreReturned, IsStep};
 ghost use Rattle.fleet_execution.specs.Stepped.{HasRoom};
 ghost use Rattle.fleet_execution.specs.Given.{Gives, IsReported, IsStanding, IsBehind, HasRoomFor};
 ghost use Rattle.fleet_execution.specs.Kept.{desk};
-ghost use Rattle.fleet_execution.specs.Desk.{HasSameBounds};
+ghost use Rattle.fleet_execution.specs.Desk.{HasSameBounds, steps_left};
 
 use crate::motion::{Move, NotUnderWay};
 use crate::standing::Standing;
@@ -100,6 +100,7 @@ impl<A: Allocator> Execution<A> {
         ensures none { result ≡ None → (o : Course) → Executes (desk self.old) o
             → AreReturned o × ((r t : ℕ) → r < o.run.plan.robots → MayBegin o.run r t → ⊥) × Executes (desk self.new) o }
         ensures some { IfSome result (λ m. (o : Course) → Executes (desk self.old) o → Gives o m (desk self.new)) }
+        ensures fewer { IfSome result (λ _. steps_left (desk self.new) < steps_left (desk self.old)) }
         ensures bounds { HasSameBounds (desk self.old) (desk self.new) }
     {
         self.state.begin()
