@@ -3,7 +3,7 @@ use Rattle.std.proofs.Common.{◌≡◌, ◌≢◌, ℕ, ◌+◌, ◌<◌, inl, 
 use Rattle.std.proofs.lemmas.Bool.{cases_eq, cases_lt}
 use Rattle.fleet_execution.specs.Desk.{Desk}
 use Rattle.fleet_execution.specs.Executes.{IsStep}
-use Rattle.fleet_execution.specs.Checked.{AreMarked, IsOff, Exchanges}
+use Rattle.fleet_execution.specs.Checked.{AreMarked, IsOff, Exchanges, IsPlacement}
 
 pub off_no_step : (d : Desk) (to : List ℕ) (r : ℕ) → r < d.count → IsOff to d.cells r → IsStep d to → ⊥
 off_no_step d to r inside off step = elim off [
@@ -50,3 +50,15 @@ marked_more to marks n m fits fresh = record {
 -- the robot that came to this one's last cell is the one that is marked there
 pub exchange_marked : (d : Desk) (to marks : List ℕ) (r q : ℕ) → AreMarked to marks d.count → Exchanges d to r q → get_or marks (d.robot r).last 0 ≡ q
 exchange_marked d to marks r q m e = ap (λ (c : ℕ). get_or marks c 0) (sym e.there) ∙ m.mark q e.inside
+
+pub off_no_placement : (cells : ℕ) (placement : List ℕ) (r : ℕ) → r < length placement → IsOff placement cells r → IsPlacement cells placement → ⊥
+off_no_placement cells placement r inside off is = elim off [
+  | inl far ↦ omega (arith, far, is.inside r inside)
+  | inr twice ↦ omega (arith, twice.1, is.distinct twice.0 r (omega (arith, twice.1, inside)) inside twice.2)
+]
+
+pub placement_is : (cells : ℕ) (placement marks : List ℕ) → length marks ≡ cells → AreMarked placement marks (length placement) → IsPlacement cells placement
+placement_is cells placement marks size m = record {
+  inside = λ r r_in. omega (arith, m.inside r r_in, size);
+  distinct = λ r q r_in q_in same. sym (m.mark r r_in) ∙ (ap (λ (c : ℕ). get_or marks c 0) same ∙ m.mark q q_in);
+}

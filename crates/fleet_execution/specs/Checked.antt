@@ -17,3 +17,8 @@ pub record Exchanges (d : Desk) (to : List ℕ) (r q : ℕ) : Type 0 where
   pub other : q ≢ r
   pub there : slice_index to q ≡ (d.robot r).last
   pub back : slice_index to r ≡ (d.robot q).last
+
+-- robots stand on different cells of the map
+pub record IsPlacement (cells : ℕ) (placement : List ℕ) : Type 0 where
+  pub inside : (r : ℕ) → r < length placement → slice_index placement r < cells
+  pub distinct : (r q : ℕ) → r < length placement → q < length placement → slice_index placement r ≡ slice_index placement q → r ≡ q

@@ -7,6 +7,7 @@ ghost use Rattle.fleet_execution.specs.Executes.{Executes, AreReturned, IsStep};
 ghost use Rattle.fleet_execution.specs.Stepped.{HasRoom};
 ghost use Rattle.fleet_execution.specs.Given.{Gives, IsReported, IsStanding, IsBehind, HasRoomFor};
 ghost use Rattle.fleet_execution.specs.Kept.{desk};
+ghost use Rattle.fleet_execution.specs.Checked.{IsPlacement};
 ghost use Rattle.fleet_execution.specs.Desk.{HasSameBounds, steps_left};
 
 use crate::motion::{Move, NotUnderWay};
@@ -44,7 +45,8 @@ impl<A: Allocator> Model for Execution<A> {
 
 impl<A: Allocator + Copy> Execution<A> {
     /// The execution of a plan that begins with a placement, which has the cell of each robot, on a map whose cells are
-    /// numbered below `cells`. At most `ahead` steps are planned that are not reached. `Err` if memory runs out.
+    /// numbered below `cells`: `is_placement` says whether it is one. At most `ahead` steps are planned that are not reached.
+    /// `Err` if memory runs out.
     pub fn new(
         alloc: A,
         cells: u32,
@@ -53,8 +55,7 @@ impl<A: Allocator + Copy> Execution<A> {
         ahead: u32,
     ) -> Result<Self, AllocError>
         requires some { 0 < ahead }
-        requires inside { (r : ℕ) → r < length placement.now → slice_index placement.now r < cells }
-        requires distinct { (r q : ℕ) → r < length placement.now → q < length placement.now → slice_index placement.now r ≡ slice_index placement.now q → r ≡ q }
+        requires placement { IsPlacement cells placement.now }
         ensures opened { IfOk result (λ e. Executes (desk e) (course_at clearance placement.now)) }
         ensures cells { IfOk result (λ e. (desk e).cells ≡ cells) }
         ensures ahead { IfOk result (λ e. (desk e).ahead ≡ ahead) }
@@ -65,6 +66,13 @@ impl<A: Allocator + Copy> Execution<A> {
 }
 
 impl<A: Allocator> Execution<A> {
+    /// How many steps were planned.
+    pub fn steps(&self) -> u64
+        ensures { result ≡ (desk self.now).steps }
+    {
+        self.state.steps
+    }
+
     /// Whether a further step may be planned: each move of the step that lies `ahead` steps before it is reached.
     pub fn has_room(&self) -> bool
         ensures desk { IsTrue result ↔ HasRoom (desk self.now) }

@@ -10,6 +10,7 @@ mod standing;
 ghost use Rattle.std.specs.Prelude.{◌≡◌, ℕ, ◌%◌, ◌<◌, ◌≤◌, length, slice_index, slice_index_or, IfOk};
 ghost use Rattle.fleet_execution.specs.Course.{course_at};
 ghost use Rattle.fleet_execution.specs.Executes.{Executes};
+ghost use Rattle.fleet_execution.specs.Checked.{IsPlacement};
 ghost use Rattle.fleet_execution.specs.State.{desk_of, slot_of, nobody, standing_on, IsSized};
 
 use crate::queue::Queue;
@@ -51,8 +52,7 @@ impl<A: Allocator + Copy> State<A> {
         ahead: u32,
     ) -> Result<Self, AllocError>
         requires some { 0 < ahead }
-        requires inside { (r : ℕ) → r < length placement.now → slice_index placement.now r < cells }
-        requires distinct { (r q : ℕ) → r < length placement.now → q < length placement.now → slice_index placement.now r ≡ slice_index placement.now q → r ≡ q }
+        requires placement { IsPlacement cells placement.now }
         ensures sized { IfOk result (λ s. IsSized s) }
         ensures opened { IfOk result (λ s. Executes (desk_of s) (course_at clearance placement.now)) }
         ensures cells { IfOk result (λ s. length s.leaves ≡ cells) }

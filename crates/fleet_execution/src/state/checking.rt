@@ -2,9 +2,10 @@
 
 ghost use Rattle.std.specs.Prelude.{◌≡◌, ◌≢◌, ◌↔◌, ◌⊎◌, ℕ, ◌+◌, ◌<◌, ◌≤◌, IsTrue, true, false, length, slice_index};
 ghost use Rattle.fleet_execution.specs.Executes.{IsStep};
-ghost use Rattle.fleet_execution.specs.Checked.{AreMarked, IsOff, Exchanges};
+ghost use Rattle.fleet_execution.specs.Checked.{AreMarked, Exchanges};
 ghost use Rattle.fleet_execution.specs.State.{desk_of, IsSized, IsSound};
 
+use crate::marks::mark_all;
 use crate::state::State;
 use std::alloc::Allocator;
 
@@ -19,49 +20,10 @@ impl<A: Allocator> State<A> {
         if to.len() != self.count as usize {
             return false;
         }
-        if !self.mark_all(to) {
+        if !mark_all(&mut self.marks, to, self.count) {
             return false;
         }
         self.none_exchange(to)
-    }
-
-    /// Marks each robot's cell with the robot; `false` if a cell is not on the map or is that of an earlier robot.
-    fn mark_all(&mut self, to: &[u32]) -> bool
-        requires sized { IsSized self.old }
-        requires robots { length to.now ≡ self.old.count }
-        ensures rest { self.new ≡ record self.old { marks = self.new.marks } }
-        ensures size { length self.new.marks ≡ length self.old.marks }
-        ensures marked { result ≡ true → AreMarked to.now self.new.marks self.old.count }
-        ensures off { result ≡ false → (r : ℕ) × (r < self.old.count) × IsOff to.now (length self.old.leaves) r }
-    {
-        for robot in 0..self.count {
-            if !self.mark(to, robot) {
-                return false;
-            }
-        }
-        true
-    }
-
-    /// Marks a robot's cell, if those of the robots before it are marked; `false` if it is not on the map or is one of those.
-    fn mark(&mut self, to: &[u32], robot: u32) -> bool
-        requires sized { length self.old.marks ≡ length self.old.leaves }
-        requires inside { robot < length to.now }
-        requires marked { AreMarked to.now self.old.marks robot }
-        ensures rest { self.new ≡ record self.old { marks = self.new.marks } }
-        ensures size { length self.new.marks ≡ length self.old.marks }
-        ensures marked { result ≡ true → AreMarked to.now self.new.marks (robot + 1) }
-        ensures off { result ≡ false → IsOff to.now (length self.old.leaves) robot }
-    {
-        let cell = to[robot as usize] as usize;
-        if cell >= self.marks.len() {
-            return false;
-        }
-        let before = self.marks.get(cell);
-        if before < robot && to[before as usize] as usize == cell {
-            return false;
-        }
-        self.marks.set(cell, robot);
-        true
     }
 
     /// Whether no two robots exchange their cells, whose cells are marked.

@@ -12,11 +12,11 @@ abbrev no_leave : Option Leave
 no_leave = None
 
 pub overflow_cast-count : goal.overflow_cast-count
-overflow_cast-count g c = omega (arith, few_robots c.args.placement.now c.args.cells c.requires.inside c.requires.distinct, c.ranges.cells)
+overflow_cast-count g c = omega (arith, few_robots c.args.placement.now c.args.cells c.requires.placement.inside c.requires.placement.distinct, c.ranges.cells)
 
 pub overflow_mul-count : goal.overflow_mul-count
 overflow_mul-count g c =
-    let small : length c.args.placement.now < 4294967296 = omega (arith, few_robots c.args.placement.now c.args.cells c.requires.inside c.requires.distinct, c.ranges.cells) in
+    let small : length c.args.placement.now < 4294967296 = omega (arith, few_robots c.args.placement.now c.args.cells c.requires.placement.inside c.requires.placement.distinct, c.ranges.cells) in
     search (rules, small)
 
 pub returns-clause-sized : goal.returns-clause-sized
@@ -34,4 +34,4 @@ pub returns-clause-opened : goal.returns-clause-opened
 returns-clause-opened g c = opened_executes _ c.args.placement.now refl refl refl (ap (λ (q : Line). q.items) c.in_ok-ready.ensures) c.in_ok-robots.ensures.robots
     (λ k. ap (λ (xs : List (Option Leave)). get_or xs k None) c.in_ok-leaves.ensures ∙ repeated c.args.cells k None)
     (λ k. ap (λ (xs : List ℕ). get_or xs k 0) c.in_ok-unreached.ensures ∙ repeated c.args.ahead k 0)
-    c.requires.distinct (λ r inside. omega (arith, c.requires.inside r inside, ap length c.in_ok-leaves.ensures, length-replicate c.args.cells no_leave))
+    c.requires.placement.distinct (λ r inside. omega (arith, c.requires.placement.inside r inside, ap length c.in_ok-leaves.ensures, length-replicate c.args.cells no_leave))

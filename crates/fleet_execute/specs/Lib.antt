@@ -1,0 +1,4 @@
+pub mod Goes
+pub mod Text
+pub mod Heard
+pub mod Answers
