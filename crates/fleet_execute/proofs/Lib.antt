@@ -1,2 +1,2 @@
-mod Going
-mod Chunks
+mod Steps
+mod Lengths

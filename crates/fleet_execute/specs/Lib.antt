@@ -1,4 +1,3 @@
 pub mod Goes
 pub mod Text
-pub mod Heard
 pub mod Answers

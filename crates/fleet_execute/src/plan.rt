@@ -1,7 +1,6 @@
 //! A plan as a list of cells.
 
-ghost use Rattle.std.specs.Prelude.{◌≡◌, ◌≤◌, ◌<◌, length};
-ghost use Rattle.fleet_execute.specs.Goes.{cells_at, steps_in};
+ghost use Rattle.std.specs.Prelude.{◌≤◌, ◌<◌, length};
 
 /// The placements of a plan by time, one after the other; each has a cell for each robot, by number.
 #[derive(Drop)]
@@ -13,24 +12,4 @@ pub struct Plan {
     pub ghost some: { 0 < robots },
     /// There is a placement.
     pub ghost whole: { robots ≤ length cells.items },
-}
-
-/// How many steps so many cells are, for so many robots.
-pub(crate) fn steps_in(robots: u32, cells: &[u32]) -> u64
-    requires some { 0 < robots }
-    requires whole { robots ≤ length cells.now }
-    ensures { result ≡ steps_in robots cells.now }
-{
-    (cells.len() / robots as usize) as u64 - 1
-}
-
-/// The robots' cells after so many steps.
-pub(crate) fn cells_at(robots: u32, cells: &[u32], time: u64) -> &[u32]
-    requires some { 0 < robots }
-    requires whole { robots ≤ length cells.now }
-    requires inside { time ≤ steps_in robots cells.now }
-    ensures { result.now ≡ cells_at robots cells.now time }
-{
-    let start = time as usize * robots as usize;
-    &cells[start..start + robots as usize]
 }

@@ -13,3 +13,4 @@ pub mod Check
 pub mod Command
 pub mod Asked
 pub mod Judge
+pub mod Heard

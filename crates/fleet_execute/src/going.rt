@@ -7,8 +7,9 @@ ghost use Rattle.fleet_execution.specs.Executes.{Executes};
 ghost use Rattle.fleet_execution.specs.Kept.{desk};
 ghost use Rattle.fleet_execute.specs.Goes.{HasGone, HasTurned, HasMet, IsDone, last_step};
 
+use crate::chunks::{cells_at, steps_in};
 use crate::fault::TurnFault;
-use crate::plan::{Plan, cells_at, steps_in};
+use crate::plan::Plan;
 use crate::print::tell_move;
 use fleet_execution::Execution;
 use std::alloc::AllocError;

@@ -1,5 +1,5 @@
 -- An execution goes on.
-use Rattle.std.proofs.Common.{◌≡◌, ℕ, ◌+◌, ◌<◌, inl, inr, List, [], ◌∷◌, ◌++◌, refl, sym, ◌∙◌, ap, append_assoc}
+use Rattle.std.proofs.Common.{◌≡◌, ℕ, ◌+◌, ◌<◌, inl, inr, List, [], ◌∷◌, ◌++◌, refl, sym, ◌∙◌, ap, append_assoc, append-nil}
 use Rattle.fleet_execution.specs.declared.motion.Move.{Move}
 use Rattle.fleet_execution.specs.Course.{Course, with_step}
 use Rattle.fleet_execution.specs.Desk.{Desk}
@@ -20,5 +20,5 @@ gone_move plan o ms d e m gone gives = elim gives.2 [
 ]
 
 pub text_more : (ms : List Move) (m : Move) → moves_text (ms ++ m ∷ []) ≡ moves_text ms ++ move_line m
-text_more [] m = ?
+text_more [] m = append-nil (move_line m)
 text_more (n ∷ ms) m = ap (λ (x : List ℕ). move_line n ++ x) (text_more ms m) ∙ sym append_assoc
