@@ -21,4 +21,13 @@ gone_move plan o ms d e m gone gives = elim gives.2 [
 
 pub text_more : (ms : List Move) (m : Move) → moves_text (ms ++ m ∷ []) ≡ moves_text ms ++ move_line m
 text_more [] m = append-nil (move_line m)
-text_more (n ∷ ms) m = ap (λ (x : List ℕ). move_line n ++ x) (text_more ms m) ∙ sym append_assoc
+text_more (n ∷ ms) m = ap (λ (x : List ℕ). move_line n ++ x) (text_more ms m) ∙ sym (append_assoc (move_line n) (moves_text ms) (move_line m))
+
+-- what goes on from a course to which another one has gone without a move
+pub goes_after : (plan : Plan) (o q : Course) (ms : List Move) (p : Course) → Goes plan o [] q → Goes plan q ms p → Goes plan o ms p
+goes_after plan o q ms p first stays = first
+goes_after plan o q ms p first (plans ns r more less) = plans ns r (goes_after plan o q ns r first more) less
+goes_after plan o q ms p first (returns ns m r t more is) = returns ns m r t (goes_after plan o q ns r first more) is
+
+pub text_after : (before now : List ℕ) (ms : List Move) (m : Move) → now ≡ before ++ moves_text ms → now ++ move_line m ≡ before ++ moves_text (ms ++ m ∷ [])
+text_after before now ms m is = rw (is, text_more ms m, append_assoc) refl

@@ -13,7 +13,7 @@ use Rattle.fleet_execute.specs.Text.{refused_line, bad_line}
 -- a robot that is under way has reached its cell, and the execution goes on; any other is refused
 abbrev pub HasTaken : Plan → ℕ → Course → List ℕ → List ℕ → Desk → Type 0
 HasTaken plan r o before after d =
-    ((c : ℕ → ℕ) × (o.run.reached r < o.returned r) × Reports o.run r c × HasTurned plan (record o { run = record o.run { reached = c } }) before after d)
+    ((c : ℕ → ℕ) × Reports o.run r c × HasTurned plan (record o { run = record o.run { reached = c } }) before after d)
     ⊎ ((r < o.run.plan.robots → o.returned r ≡ o.run.reached r) × (after ≡ before ++ refused_line r) × Executes d o)
 
 -- the text after the answer, and what is kept
