@@ -1,13 +1,13 @@
 -- An execution goes on.
-use Rattle.std.proofs.Common.{◌≡◌, ℕ, ◌+◌, ◌<◌, inl, inr, List, [], ◌∷◌, ◌++◌, refl, sym, ◌∙◌, ap, append_assoc, append-nil}
+use Rattle.std.proofs.Common.{◌≡◌, ℕ, inl, inr, List, [], ◌∷◌, ◌++◌, refl, sym, ◌∙◌, ap, append_assoc, append-nil}
 use Rattle.fleet_execution.specs.declared.motion.Move.{Move}
-use Rattle.fleet_execution.specs.Course.{Course, with_step}
+use Rattle.fleet_execution.specs.Course.{Course}
 use Rattle.fleet_execution.specs.Desk.{Desk}
 use Rattle.fleet_execution.specs.Executes.{Executes}
 use Rattle.fleet_execution.specs.Given.{Gives}
 use Rattle.fleet_execute.specs.declared.plan.Plan.{Plan}
 use Rattle.fleet_execute.specs.Text.{move_line}
-use Rattle.fleet_execute.specs.Goes.{Goes, HasGone, last_step, step_at, moves_text}
+use Rattle.fleet_execute.specs.Goes.{Goes, HasGone, moves_text}
 use Rattle.fleet_execute.specs.Goes.Goes.{stays, plans, returns}
 
 pub gone_none : (plan : Plan) (o : Course) (d : Desk) → Executes d o → HasGone plan o [] d

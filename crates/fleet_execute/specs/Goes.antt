@@ -1,5 +1,5 @@
 -- How an execution goes on with a plan, and what is written of it.
-use Rattle.std.specs.Prelude.{◌≡◌, ◌≢◌, ℕ, ◌+◌, ◌-◌, ◌*◌, ◌/◌, ◌<◌, ◌≤◌, ◌⊎◌, List, [], ◌∷◌, ◌++◌, take, drop, length}
+use Rattle.std.specs.Prelude.{◌≡◌, ℕ, ◌+◌, ◌-◌, ◌*◌, ◌/◌, ◌<◌, ◌≤◌, ◌⊎◌, List, [], ◌∷◌, ◌++◌, take, drop, length}
 use Rattle.execution_law.specs.Run.{Moves}
 use Rattle.execution_law.specs.Rule.{MayBegin}
 use Rattle.execution_law.specs.Change.{Begins}

@@ -1,5 +1,5 @@
 -- Lines that are written.
-use Rattle.std.specs.Prelude.{ℕ, List, [], ◌∷◌, ◌++◌, codes, decimal}
+use Rattle.std.specs.Prelude.{ℕ, List, ◌++◌, codes, decimal}
 use Rattle.fleet_execution.specs.declared.motion.Move.{Move}
 
 abbrev pub move_line : Move → List ℕ

@@ -1,8 +1,7 @@
 -- One more move begins.
-use Rattle.std.proofs.Common.{◌≡◌, ℕ, List, [], ◌∷◌, ◌++◌, string_bytes, refl, sym, ◌∙◌, ap, append_assoc, append-nil}
+use Rattle.std.proofs.Common.{[], ◌∷◌, ◌++◌, string_bytes, sym, ◌∙◌, append-nil}
 use Rattle.fleet_execution.specs.Kept.{desk}
-use Rattle.fleet_execute.specs.Text.{move_line}
-use Rattle.fleet_execute.proofs.Steps.{gone_none, gone_move, text_more, text_after}
+use Rattle.fleet_execute.proofs.Steps.{gone_none, gone_move, text_after}
 use Rattle.fleet_execute.proofs.going.begin_all.Goals as goal
 
 pub loop-begun-init : goal.loop-begun-init

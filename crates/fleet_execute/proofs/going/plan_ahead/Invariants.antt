@@ -1,4 +1,4 @@
-use Rattle.std.proofs.Common.{◌≡◌, [], ◌≤◌}
+use Rattle.std.proofs.Common.{◌≡◌, []}
 use Rattle.fleet_execution.specs.Course.{Course}
 use Rattle.fleet_execution.specs.Executes.{Executes}
 use Rattle.fleet_execution.specs.Kept.{desk}

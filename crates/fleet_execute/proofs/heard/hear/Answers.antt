@@ -1,5 +1,5 @@
 -- A report is taken, and the execution goes on.
-use Rattle.std.proofs.Common.{◌≡◌, ℕ, inl, inr, Result, Ok, Err, OnOk, string_bytes, sym, subst}
+use Rattle.std.proofs.Common.{ℕ, inl, Result, Ok, Err, OnOk, string_bytes, sym, subst}
 use Rattle.execution_law.specs.Change.{Reports}
 use Rattle.fleet_execution.specs.Kept.{desk}
 use Rattle.fleet_execute.specs.declared.heard.Heard.{Heard}
