@@ -31,6 +31,15 @@ fn begun_by(alloc: Global, run: &mut Execution) -> Result<Vec<Move>, AllocError>
     Ok(begun)
 }
 
+/// Begins the next move that may begin.
+fn begin_one(told: &mut String, run: &mut Execution) -> Result<(), AllocError> {
+    told.push_str("begins")?;
+    if let Some(one) = run.begin() {
+        tell_move(told, one)?;
+    }
+    told.push_str("\n")
+}
+
 /// Takes the report of a robot.
 fn report(told: &mut String, run: &mut Execution, numbers: &[u32]) -> Result<(), AllocError> {
     let [robot, ..] = numbers else {
@@ -59,6 +68,8 @@ fn call(
     } else if line.starts_with("begin") {
         let begun = begun_by(alloc, run)?;
         tell_moves(told, MOST_ROBOTS, &begun)
+    } else if line.starts_with("one") {
+        begin_one(told, run)
     } else if line.starts_with("reached") {
         report(told, run, &numbers)
     } else if line.starts_with("stand") {
