@@ -109,6 +109,30 @@ fn opened(
     Ok(Some(Course { run, plan }))
 }
 
+/// Why an execution breaks off.
+#[derive(Clone, Copy, Debug)]
+enum Stop {
+    /// A line could not be read, or not be written.
+    File,
+    NoMemory,
+    /// A step of the plan has a conflict.
+    Conflict,
+}
+
+impl From<AllocError> for Stop {
+    fn from(_error: AllocError) -> Stop {
+        Stop::NoMemory
+    }
+}
+
+/// Why an execution breaks off that does not go on.
+fn stop_of(fault: TurnFault) -> Stop {
+    match fault {
+        TurnFault::NoMemory => Stop::NoMemory,
+        TurnFault::Conflict(_) => Stop::Conflict,
+    }
+}
+
 /// Reads the next line, and answers it. Returns whether there was one.
 fn answer_line<I: BufRead>(
     input: &mut I,
@@ -116,58 +140,71 @@ fn answer_line<I: BufRead>(
     told: &mut String,
     course: &mut Course,
     number: u64,
-) -> Result<bool, TurnFault> {
+) -> Result<bool, Stop> {
     match read_line(input, MOST_LINE, line) {
         Ok(true) => {
             let heard = heard_in(without_return(line));
-            hear(told, &mut course.run, &course.plan, number, heard)?;
-            Ok(true)
+            match hear(told, &mut course.run, &course.plan, number, heard) {
+                Ok(()) => Ok(true),
+                Err(fault) => Err(stop_of(fault)),
+            }
         }
         Ok(false) => Ok(false),
-        Err(LineFault::NoMemory) => Err(TurnFault::NoMemory),
-        Err(LineFault::Read) => Ok(false),
+        Err(LineFault::NoMemory) => Err(Stop::NoMemory),
+        Err(LineFault::Read) => Err(Stop::File),
     }
 }
 
-/// Executes a plan until it is done or the input ends. Returns whether all was written.
+/// Writes the lines; it is a stop if they cannot all be written.
+fn write_lines<W: Write>(output: &mut W, told: &str) -> Result<(), Stop> {
+    if write_whole(output, told.as_bytes()) {
+        Ok(())
+    } else {
+        Err(Stop::File)
+    }
+}
+
+/// Executes a plan until it is done or the input ends.
 fn hold<I: BufRead, W: Write>(
     alloc: Global,
     course: &mut Course,
     input: &mut I,
     output: &mut W,
-) -> Result<bool, TurnFault> {
+) -> Result<(), Stop> {
     let mut told = String::new(alloc);
     let mut line = Vec::new(alloc);
-    turn(&mut told, &mut course.run, &course.plan)?;
+    match turn(&mut told, &mut course.run, &course.plan) {
+        Ok(()) => {}
+        Err(fault) => return Err(stop_of(fault)),
+    }
     for number in 1..u64::MAX {
         if is_done(&course.run, &course.plan) {
             told.push_str("done\n")?;
-            return Ok(write_whole(output, told.as_bytes()));
+            return write_lines(output, &told);
         }
-        if !write_whole(output, told.as_bytes()) {
-            return Ok(false);
-        }
+        write_lines(output, &told)?;
         told.clear();
         if !answer_line(input, &mut line, &mut told, course, number)? {
-            return Ok(true);
+            return Ok(());
         }
     }
-    Ok(true)
+    Ok(())
 }
 
 /// Prints why an execution broke off. Returns the status.
-fn complain_of_turn<E: Write>(fault: TurnFault, error: &mut E) -> u8 {
-    match fault {
-        TurnFault::NoMemory => fail(InputFault::NoMemory, error),
+fn complain_of_stop<E: Write>(stop: Stop, error: &mut E) -> u8 {
+    match stop {
+        Stop::File => fail(InputFault::File, error),
+        Stop::NoMemory => fail(InputFault::NoMemory, error),
         // A valid plan has no conflict, so this never runs
-        TurnFault::Conflict(_) => {
+        Stop::Conflict => {
             write_whole(error, b"fleet: plan conflict\n");
             6
         }
     }
 }
 
-/// Executes the plan of a study.
+/// Executes the plan of these placements.
 fn execute_places<I: BufRead, W: Write, E: Write>(
     alloc: Global,
     (clearance, ahead): (Clearance, u32),
@@ -175,27 +212,21 @@ fn execute_places<I: BufRead, W: Write, E: Write>(
     (input, output): (&mut I, &mut W),
     error: &mut E,
 ) -> u8 {
-    let mut course = match opened(alloc, clearance, ahead, places) {
-        Ok(Some(course)) => course,
-        Ok(None) => {
-            return if write_whole(output, b"done\n") {
-                0
-            } else {
-                fail(InputFault::File, error)
-            };
-        }
-        Err(AllocError) => return fail(InputFault::NoMemory, error),
+    let done = match opened(alloc, clearance, ahead, places) {
+        Ok(Some(mut course)) => hold(alloc, &mut course, input, output),
+        // Nobody has to move.
+        Ok(None) => write_lines(output, "done\n"),
+        Err(AllocError) => Err(Stop::NoMemory),
     };
-    match hold(alloc, &mut course, input, output) {
-        Ok(true) => 0,
-        Ok(false) => fail(InputFault::File, error),
-        Err(fault) => complain_of_turn(fault, error),
+    match done {
+        Ok(()) => 0,
+        Err(stop) => complain_of_stop(stop, error),
     }
 }
 
 /// Executes the plan on the map, if it is valid: writes a line `move ROBOT FROM TO TICK` for each move that may begin, reads
-/// lines `reached ROBOT`, and ends with `done`, or when the input ends. Returns the status: 0 good, 3 the output was not
-/// written, 4 the map is refused, 6 the plan cannot be read or is not valid, as `fleet check` says it, 7 out of memory.
+/// lines `reached ROBOT`, and ends with `done`, or when the input ends. Returns the status: 0 good, 3 a line could not be
+/// read or written, 4 the map is refused, 6 the plan cannot be read or is not valid, as `fleet check` says it, 7 out of memory.
 pub fn run_execute<R: Alloc<A = Global>, I: BufRead, W: Write, E: Write>(
     rt: &R,
     texts: ExecuteTexts<'_>,
