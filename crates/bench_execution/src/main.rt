@@ -17,7 +17,7 @@ fn is_arrived(rt: &(impl Env + Alloc<A = Global>)) -> io::Result<bool> {
     let mut words = env::args(rt)?;
     let _program = words.next();
     Ok(match words.next() {
-        Some(word) => word == "arrived",
+        Some(word) => word.as_str() == "arrived",
         None => false,
     })
 }

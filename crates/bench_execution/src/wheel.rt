@@ -37,10 +37,11 @@ impl Wheel {
     /// The robot is under way, for one to three ticks.
     pub(crate) fn send(&mut self, robot: u32) -> Result<(), AllocError> {
         match self.draw() % 3 {
-            0 => self.next.push(robot),
-            1 => self.second.push(robot),
-            _ => self.third.push(robot),
+            0 => self.next.push(robot)?,
+            1 => self.second.push(robot)?,
+            _ => self.third.push(robot)?,
         }
+        Ok(())
     }
 
     /// A tick passes. Returns whether nobody is under way.
