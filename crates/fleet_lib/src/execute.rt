@@ -91,17 +91,18 @@ fn opened(
     places: &Placements,
 ) -> Result<Option<Course>, AllocError> {
     let cells = cells_of(alloc, places)?;
-    let robots = places.at(0).len();
+    let first = places.at(0);
+    let robots = first.len();
     if robots == 0 || robots > u32::MAX as usize || robots > cells.len() || ahead == 0 {
         return Ok(None);
     }
     let Some(count) = after_greatest(&cells) else {
         return Ok(None);
     };
-    if !is_placement(alloc, count, places.at(0))? {
+    if !is_placement(alloc, count, first)? {
         return Ok(None);
     }
-    let run = Execution::new(alloc, count, places.at(0), clearance, ahead)?;
+    let run = Execution::new(alloc, count, first, clearance, ahead)?;
     let plan = Plan {
         robots: robots as u32,
         cells,
