@@ -13,4 +13,3 @@ pub mod Check
 pub mod Command
 pub mod Asked
 pub mod Judge
-pub mod Heard

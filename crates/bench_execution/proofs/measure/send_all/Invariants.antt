@@ -1,6 +1,0 @@
-use Rattle.fleet_execution.specs.Kept.{desk}
-use Rattle.fleet_execution.specs.Desk.{steps_left}
-use Rattle.bench_execution.proofs.measure.send_all.Given as goal
-
-abbrev pub decreases-loop-begun : goal.decreases-loop-begun
-decreases-loop-begun l = steps_left (desk l.run)
