@@ -144,11 +144,12 @@ sized_give s r t turns z = record {
   window = z.window;
   unreached = z.unreached;
   ready = z.ready;
+  marks = z.marks;
   small = z.small;
 }
 
 pub sized_turning : {A : Type 0} (s : State A) (k : Option Turning) → IsSized s → IsSized (record s { turning = k })
-sized_turning s k z = record { some = z.some; robots = z.robots; window = z.window; unreached = z.unreached; ready = z.ready; small = z.small }
+sized_turning s k z = record { some = z.some; robots = z.robots; window = z.window; unreached = z.unreached; ready = z.ready; marks = z.marks; small = z.small }
 
 module _ {A : Type 0} (s : State A) (o : Course) (x : Executes (desk_of s) o) (sized : IsSized s) (r t : ℕ) (inside : r < s.count) where
   r_in : r < o.run.plan.robots

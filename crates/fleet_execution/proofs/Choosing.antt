@@ -27,7 +27,7 @@ dropped d o r ready x all first not is = record {
 
 -- the state with another queue
 pub sized_ready : {A : Type 0} (s : State A) (q : Line) → IsSized s → q.robots ≡ s.ready.robots → IsSized (record s { ready = q })
-sized_ready s q z same = record { some = z.some; robots = z.robots; window = z.window; unreached = z.unreached; ready = same ∙ z.ready; small = z.small }
+sized_ready s q z same = record { some = z.some; robots = z.robots; window = z.window; unreached = z.unreached; ready = same ∙ z.ready; marks = z.marks; small = z.small }
 
 pub dropped_state : {A : Type 0} (s : State A) (q : Line) (r : ℕ) → s.turning ≡ None → slice_get s.ready.items 0 ≡ Some r → MayNotBegin (desk_of s) r → q.items ≡ drop 1 s.ready.items
     → (o : Course) → Executes (desk_of s) o → Executes (desk_of (record s { ready = q })) o

@@ -23,3 +23,8 @@ mod Reported
 mod Longer
 mod Planned
 mod Grown
+mod Looking
+mod Left
+mod Few
+mod Checking
+mod Fewer

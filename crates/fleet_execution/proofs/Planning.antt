@@ -20,7 +20,7 @@ last_inside s o x r inside =
     omega (arith, (x.tracked r r_in).last, x.knows.inside r o.run.plan.steps r_in (omega arith))
 
 pub sized_leaves : {A : Type 0} (s : State A) (l : List (Option Leave)) (w : List Planned) → IsSized s → length l ≡ length s.leaves → length w ≡ length s.window → IsSized (record s { leaves = l; window = w })
-sized_leaves s l w z cells same = record { some = z.some; robots = z.robots; window = same ∙ z.window; unreached = z.unreached; ready = z.ready; small = omega (arith, cells, z.small) }
+sized_leaves s l w z cells same = record { some = z.some; robots = z.robots; window = same ∙ z.window; unreached = z.unreached; ready = z.ready; marks = z.marks ∙ sym cells; small = omega (arith, cells, z.small) }
 
 abbrev at_slot : {A : Type 0} → State A → List Planned → ℕ → ℕ → Planned
 at_slot s w r t = get_or w (slot_of s.ahead s.count r t) blank

@@ -30,6 +30,7 @@ sized_arrive s r k z = record {
   window = z.window;
   unreached = length-set s.unreached _ _ ∙ z.unreached;
   ready = z.ready;
+  marks = z.marks;
   small = z.small;
 }
 

@@ -221,4 +221,4 @@ followed_step {A} s0 s t to i step sized f last inside cell_in step_is rest told
     ]
 
 pub sized_window : {A : Type 0} (s : State A) (w : List Planned) → IsSized s → length w ≡ length s.window → IsSized (record s { window = w })
-sized_window s w z same = record { some = z.some; robots = z.robots; window = same ∙ z.window; unreached = z.unreached; ready = z.ready; small = z.small }
+sized_window s w z same = record { some = z.some; robots = z.robots; window = same ∙ z.window; unreached = z.unreached; ready = z.ready; marks = z.marks; small = z.small }

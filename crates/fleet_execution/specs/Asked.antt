@@ -1,5 +1,5 @@
 -- What is asked of what is kept.
-use Rattle.std.specs.Prelude.{◌≡◌, ◌≢◌, ℕ, suc, ◌+◌, ◌<◌, ◌≤◌, Option, Some, None}
+use Rattle.std.specs.Prelude.{◌≡◌, ◌≢◌, ℕ, suc, ◌+◌, ◌-◌, ◌%◌, ◌<◌, ◌≤◌, Option, Some, None}
 use Rattle.execution_law.specs.declared.clearance.Clearance.TheVariants.{Arrived, Started}
 use Rattle.execution_law.specs.declared.clearance.Clearance.{Clearance}
 use Rattle.fleet_execution.specs.declared.robot.Robot.{Robot}
@@ -57,3 +57,10 @@ pub record MayTurnIn (d : Desk) (t r size : ℕ) : Type 0 where
 -- all robots that turn with robot r may
 abbrev pub MayAllTurn : Desk → ℕ → ℕ → Type 0
 MayAllTurn d t r = IsRing d t r × ((k : ℕ) → IsLinked d t (chain (before_in d.window t) r k) × IsReadyIn d t (chain (before_in d.window t) r k))
+
+-- the first of the last n kept steps has a move that is not reached, and no kept step before has
+pub record IsBehindIn (d : Desk) (n : ℕ) : Type 0 where
+  pub within : n ≤ d.steps
+  pub late : n ≤ d.ahead
+  pub first : 0 < n → 0 < d.unreached ((d.steps + 1 - n) % d.ahead)
+  pub before : (u : ℕ) → n < u → u ≤ d.ahead → u ≤ d.steps → d.unreached ((d.steps + 1 - u) % d.ahead) ≡ 0

@@ -1,5 +1,5 @@
 -- What an execution keeps, as functions of robots, steps and cells.
-use Rattle.std.specs.Prelude.{ℕ, zero, suc, List, Option, Some, None}
+use Rattle.std.specs.Prelude.{◌≡◌, ℕ, zero, suc, ◌+◌, ◌-◌, List, Option, Some, None}
 use Rattle.execution_law.specs.declared.clearance.Clearance.{Clearance}
 use Rattle.fleet_execution.specs.declared.robot.Robot.{Robot}
 use Rattle.fleet_execution.specs.declared.robot.Leave.{Leave}
@@ -19,6 +19,20 @@ pub record Desk : Type 0 where
   pub leave : ℕ → Option Leave
   pub ready : List ℕ
   pub turning : Option Turning
+
+-- the sum of a value for each of the numbers below n
+abbrev pub total_below : ℕ → (ℕ → ℕ) → ℕ
+total_below zero f = 0
+total_below (suc n) f = f n + total_below n f
+
+-- how many planned steps lie after each robot's last move that was returned, in sum: so often at most `begin` returns a move
+abbrev pub steps_left : Desk → ℕ
+steps_left d = total_below d.count (λ r. d.steps - (d.robot r).returned)
+
+-- the map and the window stay
+pub record HasSameBounds (d e : Desk) : Type 0 where
+  pub cells : e.cells ≡ d.cells
+  pub ahead : e.ahead ≡ d.ahead
 
 abbrev pub leaver : Option Leave → ℕ → ℕ
 leaver None r = r

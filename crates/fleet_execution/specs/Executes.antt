@@ -87,9 +87,17 @@ abbrev pub count_below : ℕ → (ℕ → Bool) → ℕ
 count_below zero p = 0
 count_below (suc n) p = (if p n then 1 else 0) + count_below n p
 
--- whether robot r changes its cell in step t, and has not reached the new one
+-- whether robot r changes its cell in step t
+abbrev pub changes : Plan → ℕ → ℕ → Bool
+changes plan t r = not (plan.cell t r == plan.cell (t - 1) r)
+
+-- and has not reached the new one
 abbrev pub is_open : Plan → (ℕ → ℕ) → ℕ → ℕ → Bool
-is_open plan reached t r = not (plan.cell t r == plan.cell (t - 1) r) && nat_lt (reached r) t
+is_open plan reached t r = changes plan t r && nat_lt (reached r) t
+
+-- of the steps up to `last`, how many after step `done` have a move of robot r
+abbrev pub moves_between : Plan → ℕ → ℕ → ℕ → ℕ
+moves_between plan r done last = count_below (last + 1) (λ t. nat_lt done t && changes plan t r)
 
 -- the moves of each step that are not reached
 pub record Counts (plan : Plan) (reached : ℕ → ℕ) (ahead : ℕ) (unreached : ℕ → ℕ) : Type 0 where

@@ -1,5 +1,5 @@
 -- What `begin` gives.
-use Rattle.std.specs.Prelude.{◌≡◌, ℕ, ◌-◌, ◌<◌, ◌⊎◌, Some, None}
+use Rattle.std.specs.Prelude.{◌≡◌, ℕ, ◌+◌, ◌-◌, ◌<◌, ◌≤◌, ◌⊎◌, Some, None}
 use Rattle.execution_law.specs.Run.{Moves}
 use Rattle.execution_law.specs.Rule.{MayBegin, MayBeginAlone}
 use Rattle.execution_law.specs.Change.{Begins, Reports}
@@ -9,7 +9,7 @@ use Rattle.fleet_execution.specs.declared.state.beginning.Beginning.{Beginning}
 use Rattle.fleet_execution.specs.declared.state.beginning.Beginning.TheVariants.{Alone, Turning}
 use Rattle.fleet_execution.specs.Course.{Course, put}
 use Rattle.fleet_execution.specs.Desk.{Desk}
-use Rattle.fleet_execution.specs.Executes.{AreReturned, Executes}
+use Rattle.fleet_execution.specs.Executes.{AreReturned, Executes, moves_between}
 use Rattle.fleet_execution.specs.Asked.{MayTurnIn, IsNextIn}
 
 -- the move is that of its robot in its step
@@ -44,3 +44,15 @@ pub record IsStanding (o : Course) (r : ℕ) (s : Standing) : Type 0 where
   pub cell : s.cell ≡ o.run.plan.cell (o.run.reached r) r
   pub still : o.returned r ≡ o.run.reached r → s.bound_for ≡ None
   pub moving : o.run.reached r < o.returned r → s.bound_for ≡ Some (o.run.plan.cell (o.returned r) r)
+  pub left : s.left ≡ moves_between o.run.plan r (o.returned r) o.run.plan.steps
+
+-- the first step with a move that is not reached is the first of the last n planned steps; all moves are reached if n is 0
+pub record IsBehind (o : Course) (n : ℕ) : Type 0 where
+  pub within : n ≤ o.run.plan.steps
+  pub first : 0 < n → (r : ℕ) × (r < o.run.plan.robots) × Moves o.run.plan r (o.run.plan.steps + 1 - n) × (o.run.reached r < o.run.plan.steps + 1 - n)
+  pub before : (r t : ℕ) → r < o.run.plan.robots → t + n ≤ o.run.plan.steps → Moves o.run.plan r t → t ≤ o.run.reached r
+
+-- a further step may be planned: each move that lies this many steps before it is reached
+pub record HasRoomFor (o : Course) (ahead : ℕ) : Type 0 where
+  pub more : o.run.plan.steps < 18446744073709551615
+  pub reached : (r t : ℕ) → r < o.run.plan.robots → t + ahead ≤ o.run.plan.steps + 1 → Moves o.run.plan r t → t ≤ o.run.reached r

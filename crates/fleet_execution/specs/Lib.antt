@@ -4,6 +4,7 @@ pub mod Desk
 pub mod Executes
 pub mod Asked
 pub mod Stepped
+pub mod Checked
 pub mod Kept
 pub mod State
 pub mod Given

@@ -30,6 +30,7 @@ pub record IsSized {A : Type 0} (s : State A) : Type 0 where
   pub window : length s.window ≡ s.ahead * s.count
   pub unreached : length s.unreached ≡ s.ahead
   pub ready : s.ready.robots ≡ s.count
+  pub marks : length s.marks ≡ length s.leaves
   pub small : length s.leaves < 4294967296
 
 -- it keeps to some plan

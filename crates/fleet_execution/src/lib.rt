@@ -3,7 +3,9 @@
 
 mod execution;
 pub mod law;
+mod marks;
 mod motion;
+mod placement;
 mod queue;
 mod robot;
 mod standing;
@@ -13,4 +15,5 @@ mod table;
 pub use execution::Execution;
 pub use execution_law::Clearance;
 pub use motion::{Move, NotUnderWay};
+pub use placement::is_placement;
 pub use standing::Standing;

@@ -2,6 +2,7 @@
 
 mod asking;
 mod beginning;
+mod checking;
 mod planning;
 mod reporting;
 mod standing;
@@ -9,6 +10,7 @@ mod standing;
 ghost use Rattle.std.specs.Prelude.{◌≡◌, ℕ, ◌%◌, ◌<◌, ◌≤◌, length, slice_index, slice_index_or, IfOk};
 ghost use Rattle.fleet_execution.specs.Course.{course_at};
 ghost use Rattle.fleet_execution.specs.Executes.{Executes};
+ghost use Rattle.fleet_execution.specs.Checked.{IsPlacement};
 ghost use Rattle.fleet_execution.specs.State.{desk_of, slot_of, nobody, standing_on, IsSized};
 
 use crate::queue::Queue;
@@ -34,6 +36,8 @@ pub(crate) struct State<A: Allocator = Global> {
     pub(crate) unreached: Table<u32, A>,
     /// By cell: who left it last in the plan.
     pub(crate) leaves: Table<Option<Leave>, A>,
+    /// By cell: a robot that came to it in a step that was looked at, or any number.
+    pub(crate) marks: Table<u32, A>,
     /// Each robot whose next move may begin, or one of its cycle, and maybe more.
     pub(crate) ready: Queue<A>,
     pub(crate) turning: Option<Turning>,
@@ -48,11 +52,11 @@ impl<A: Allocator + Copy> State<A> {
         ahead: u32,
     ) -> Result<Self, AllocError>
         requires some { 0 < ahead }
-        requires few { length placement.now ≤ cells }
-        requires inside { (r : ℕ) → r < length placement.now → slice_index placement.now r < cells }
-        requires distinct { (r q : ℕ) → r < length placement.now → q < length placement.now → slice_index placement.now r ≡ slice_index placement.now q → r ≡ q }
+        requires placement { IsPlacement cells placement.now }
         ensures sized { IfOk result (λ s. IsSized s) }
         ensures opened { IfOk result (λ s. Executes (desk_of s) (course_at clearance placement.now)) }
+        ensures cells { IfOk result (λ s. length s.leaves ≡ cells) }
+        ensures ahead { IfOk result (λ s. s.ahead ≡ ahead) }
     {
         let count = placement.len() as u32;
         let robots = on_cells(alloc, placement)?;
@@ -64,6 +68,7 @@ impl<A: Allocator + Copy> State<A> {
         let window = Table::new(alloc, count as usize * ahead as usize, blank)?;
         let unreached = Table::new(alloc, ahead as usize, 0)?;
         let leaves = Table::new(alloc, cells as usize, None)?;
+        let marks = Table::new(alloc, cells as usize, 0)?;
         let ready = Queue::new(alloc, count)?;
         Ok(State {
             clearance,
@@ -74,6 +79,7 @@ impl<A: Allocator + Copy> State<A> {
             window,
             unreached,
             leaves,
+            marks,
             ready,
             turning: None,
         })

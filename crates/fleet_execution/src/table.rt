@@ -29,6 +29,13 @@ impl<T: Copy, A: Allocator> Table<T, A> {
         Ok(Table { items })
     }
 
+    /// How many values there are.
+    pub(crate) fn len(&self) -> usize
+        ensures { result ≡ length self.now }
+    {
+        self.items.len()
+    }
+
     /// The value at a place.
     pub(crate) fn get(&self, at: usize) -> T
         requires { at < length self.now }

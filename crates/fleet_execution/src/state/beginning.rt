@@ -5,7 +5,7 @@ ghost use Rattle.execution_law.specs.declared.clearance.Clearance.TheVariants.{S
 ghost use Rattle.execution_law.specs.Rule.{MayBegin, MayBeginAlone};
 ghost use Rattle.fleet_execution.specs.declared.robot.Turning.{Turning};
 ghost use Rattle.fleet_execution.specs.Course.{Course};
-ghost use Rattle.fleet_execution.specs.Desk.{before_in};
+ghost use Rattle.fleet_execution.specs.Desk.{before_in, HasSameBounds};
 ghost use Rattle.fleet_execution.specs.Executes.{Executes, AreReturned, IsIn};
 ghost use Rattle.fleet_execution.specs.Asked.{MayTurnIn, IsNextIn};
 ghost use Rattle.fleet_execution.specs.State.{desk_of, IsSized, IsSound};
@@ -56,6 +56,7 @@ impl<A: Allocator> State<A> {
         ensures none { result ≡ None → (o : Course) → Executes (desk_of self.old) o
             → AreReturned o × ((r t : ℕ) → r < o.run.plan.robots → MayBegin o.run r t → ⊥) × Executes (desk_of self.new) o }
         ensures some { IfSome result (λ m. (o : Course) → Executes (desk_of self.old) o → Gives o m (desk_of self.new)) }
+        ensures bounds { HasSameBounds (desk_of self.old) (desk_of self.new) }
     {
         if let Some(turning) = self.turning {
             return Some(self.go_on(turning));
@@ -74,6 +75,7 @@ impl<A: Allocator> State<A> {
         ensures sized { IsSized self.new }
         ensures idle { self.new.turning ≡ None }
         ensures keeps { (o : Course) → Executes (desk_of self.old) o → Executes (desk_of self.new) o }
+        ensures bounds { HasSameBounds (desk_of self.old) (desk_of self.new) }
         ensures first { MatchOption result (self.new.ready.items ≡ []) (λ s. (s.robot < self.new.count)
             × (slice_get self.new.ready.items 0 ≡ Some s.robot) × IsBeginning (desk_of self.new) s.robot s.beginning) }
     {
@@ -118,6 +120,7 @@ impl<A: Allocator> State<A> {
         requires may { (o : Course) → Executes (desk_of self.old) o → AreReturned o → MayBeginAlone o.run robot step }
         ensures sized { IsSized self.new }
         ensures gives { (o : Course) → Executes (desk_of self.old) o → Gives o result (desk_of self.new) }
+        ensures bounds { HasSameBounds (desk_of self.old) (desk_of self.new) }
     {
         self.ready.drop_first();
         self.wake(Clearance::Started, robot, step);
@@ -133,6 +136,7 @@ impl<A: Allocator> State<A> {
         requires may { IsNextIn (desk_of self.old) robot step × ((size : ℕ) × MayTurnIn (desk_of self.old) step robot size) }
         ensures sized { IsSized self.new }
         ensures gives { (o : Course) → Executes (desk_of self.old) o → Gives o result (desk_of self.new) }
+        ensures bounds { HasSameBounds (desk_of self.old) (desk_of self.new) }
     {
         self.ready.drop_first();
         let next = self.before(robot, step);
@@ -150,6 +154,7 @@ impl<A: Allocator> State<A> {
         requires turning { self.old.turning ≡ Some turning }
         ensures sized { IsSized self.new }
         ensures gives { (o : Course) → Executes (desk_of self.old) o → Gives o result (desk_of self.new) }
+        ensures bounds { HasSameBounds (desk_of self.old) (desk_of self.new) }
     {
         let next = self.before(turning.next, turning.step);
         self.turning = rest(turning, next);

@@ -3,6 +3,7 @@
 ghost use Rattle.std.specs.Prelude.{◌≡◌, ◌≢◌, ◌↔◌, ◌⊎◌, ℕ, ◌+◌, ◌-◌, ◌%◌, ◌<◌, ◌≤◌, Some, None, IsTrue, not, ◌==◌, length, slice_index, slice_index_or, slice_set};
 ghost use Rattle.fleet_execution.specs.declared.robot.Leave.{Leave};
 ghost use Rattle.fleet_execution.specs.Course.{Course, with_step};
+ghost use Rattle.fleet_execution.specs.Desk.{HasSameBounds};
 ghost use Rattle.fleet_execution.specs.Executes.{Executes, IsKept, IsStep, IsIn, count_below};
 ghost use Rattle.fleet_execution.specs.Stepped.{IsMover, AreNoted, AreLast, HasRoom, IsTold};
 ghost use Rattle.fleet_execution.specs.State.{desk_of, slot_of, nobody, blank, IsSized, IsSound};
@@ -27,6 +28,7 @@ impl<A: Allocator> State<A> {
         requires step { IsStep (desk_of self.old) to.now }
         ensures sized { IsSized self.new }
         ensures planned { (o : Course) → Executes (desk_of self.old) o → Executes (desk_of self.new) (with_step o to.now) }
+        ensures bounds { HasSameBounds (desk_of self.old) (desk_of self.new) }
     {
         let step = self.steps + 1;
         self.note_leaves(to, step);

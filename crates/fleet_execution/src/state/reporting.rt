@@ -3,7 +3,7 @@
 ghost use Rattle.std.specs.Prelude.{◌≡◌, ◌≢◌, ℕ, ◌-◌, ◌%◌, ◌<◌, ◌≤◌, IfOk, IfErr, slice_set, slice_index};
 ghost use Rattle.fleet_execution.specs.declared.robot.Robot.{Robot};
 ghost use Rattle.fleet_execution.specs.Course.{Course, put};
-ghost use Rattle.fleet_execution.specs.Desk.{before_in, chain};
+ghost use Rattle.fleet_execution.specs.Desk.{before_in, chain, HasSameBounds};
 ghost use Rattle.fleet_execution.specs.Executes.{Executes, IsIn, Wakes};
 ghost use Rattle.fleet_execution.specs.Asked.{IsRing};
 ghost use Rattle.fleet_execution.specs.State.{desk_of, IsSized, IsSound};
@@ -24,6 +24,7 @@ impl<A: Allocator> State<A> {
             robot < o.run.plan.robots → o.returned robot ≡ o.run.reached robot)) }
         ensures robot { IfOk result (λ m. m.robot ≡ robot) }
         ensures reported { IfOk result (λ m. (o : Course) → Executes (desk_of self.old) o → IsReported o m (desk_of self.new)) }
+        ensures bounds { HasSameBounds (desk_of self.old) (desk_of self.new) }
     {
         if robot >= self.count {
             return Err(NotUnderWay);

@@ -2,9 +2,10 @@
 
 ghost use Rattle.std.specs.Prelude.{◌≡◌, ◌≢◌, ◌≤◌, ◌<◌, Some, None, IfSome};
 ghost use Rattle.fleet_execution.specs.Course.{Course};
-ghost use Rattle.fleet_execution.specs.Executes.{Executes};
+ghost use Rattle.fleet_execution.specs.Executes.{Executes, moves_between};
 ghost use Rattle.fleet_execution.specs.Given.{IsStanding};
 ghost use Rattle.fleet_execution.specs.State.{desk_of, IsSized};
+ghost use Rattle.fleet_execution.specs.Asked.{IsBehindIn};
 
 use crate::robot::Robot;
 use crate::standing::Standing;
@@ -26,6 +27,7 @@ impl<A: Allocator> State<A> {
     /// How many planned steps there are from the first with a move that is not reached.
     pub(crate) fn behind(&self) -> u32
         requires { IsSized self.now }
+        ensures { IsBehindIn (desk_of self.now) result }
     {
         let mut steps = self.ahead;
         while steps > 0 {
@@ -60,6 +62,7 @@ impl<A: Allocator> State<A> {
     fn left(&self, robot: u32) -> u32
         requires sized { IsSized self.now }
         requires inside { robot < self.now.count }
+        ensures { (o : Course) → Executes (desk_of self.now) o → result ≡ moves_between o.run.plan robot (o.returned robot) o.run.plan.steps }
     {
         let state = self.robots.get(robot as usize);
         let before = self.steps.saturating_sub(u64::from(self.ahead));

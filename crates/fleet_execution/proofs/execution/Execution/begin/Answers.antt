@@ -1,4 +1,5 @@
 -- The next move that may begin.
+use Rattle.fleet_execution.proofs.Fewer.{fewer_left}
 use Rattle.fleet_execution.proofs.Sound.{sound_begun}
 use Rattle.fleet_execution.proofs.execution.Execution.begin.Goals as goal
 
@@ -10,3 +11,6 @@ returns-clause-none g c = rw (← c.self.view_is) c.begin.ensures.none
 
 pub returns-clause-some : goal.returns-clause-some
 returns-clause-some g c = rw (← c.self.view_is) c.begin.ensures.some
+
+pub returns-clause-fewer : goal.returns-clause-fewer
+returns-clause-fewer g c = rw (← c.self.view_is) (fewer_left c.self.inside.state c.begin.new.self c.begin.result c.self.invariant c.begin.ensures.some)

@@ -1,10 +1,10 @@
 -- Robots at the front that may not begin are dropped.
-use Rattle.std.proofs.Common.{length, sym, ap, arith}
+use Rattle.std.proofs.Common.{length, refl, sym, ap, arith}
 use Rattle.fleet_execution.proofs.Choosing.{dropped_state, sized_ready, shorter}
 use Rattle.fleet_execution.proofs.state.State.choose.Goals as goal
 
 pub loop-robot-init : goal.loop-robot-init
-loop-robot-init g c = record { sized = c.requires.sound.sized; idle = c.requires.idle; keeps = λ o x. x }
+loop-robot-init g c = record { sized = c.requires.sound.sized; idle = c.requires.idle; keeps = λ o x. x; bounds = record { cells = refl; ahead = refl } }
 
 pub beginning-requires-clause-sound : goal.beginning-requires-clause-sound
 beginning-requires-clause-sound g c = record {
@@ -22,6 +22,7 @@ loop-robot-preserved g c = record {
   idle = c.loop-robot.invariant.idle;
   keeps = λ o x. dropped_state c.loop-robot.self c.drop_first.new.self c.in-Some.robot c.loop-robot.invariant.idle (sym c.in-Some.ensures.value) c.in_default-beginning.ensures c.drop_first.ensures.items o
       (c.loop-robot.invariant.keeps o x);
+  bounds = record { cells = c.loop-robot.invariant.bounds.cells; ahead = c.loop-robot.invariant.bounds.ahead };
 }
 
 pub loop-robot-smaller : goal.loop-robot-smaller

@@ -16,4 +16,5 @@ returns-clause-some g c o x =
       cell = ap (λ (s : Robot). s.cell) is ∙ k.cell;
       still = λ same. c.bound_for.ensures.still (returned ∙ (same ∙ sym reached));
       moving = λ less. c.bound_for.ensures.moving (λ e. absurd (omega (arith, less, e, returned, reached))) ∙ ap (λ (b : ℕ). Some b) (ap (λ (s : Robot). s.bound) is ∙ k.bound);
+      left = c.left-left.ensures o x;
     }
