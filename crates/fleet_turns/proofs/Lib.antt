@@ -1,0 +1,2 @@
+pub mod ToCores
+pub mod Distances

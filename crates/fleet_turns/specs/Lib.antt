@@ -1,0 +1,9 @@
+pub use Rattle.fleet_grid.specs.Floor
+pub use Rattle.fleet_grid.specs.Walk
+pub use Rattle.fleet_grid.specs.Step
+pub use Rattle.fleet_pibt.specs.Eldest
+pub use Rattle.fleet_pibt.specs.Door
+pub use Rattle.fleet_planner.specs.Lending
+pub mod Turns
+pub mod Turn
+pub mod inside
