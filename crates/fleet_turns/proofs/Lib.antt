@@ -1,2 +1,2 @@
 pub mod ToCores
-pub mod Distances
+pub mod CoreDistances

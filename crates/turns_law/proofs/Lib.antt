@@ -5,3 +5,5 @@ pub mod Inmates
 pub mod RoomFacts
 pub mod Falls
 pub mod Served
+pub mod Holding
+pub mod Steps
