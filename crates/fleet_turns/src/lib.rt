@@ -5,6 +5,9 @@
 mod distances;
 mod guide;
 mod planner;
+mod ready;
+mod tables;
 mod to_core;
 
 pub use planner::{Fleet, NoTurns, TurnPlanner};
+pub use ready::is_ready;

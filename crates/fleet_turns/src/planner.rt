@@ -1,19 +1,19 @@
 //! The planner of turns.
 
-ghost use Rattle.std.specs.Prelude.{◌≡◌, ℕ, ◌+◌, ◌^◌, ◌<◌, ◌≤◌, Some, length, map, IfOk, OnOk, OnErr};
+ghost use Rattle.std.specs.Prelude.{◌≡◌, ◌≤◌, length, map, IfOk, OnOk, OnErr};
 ghost use Rattle.fleet_field.specs.Store.{Keeps};
 ghost use Rattle.fleet_grid.specs.Step.{IsPlacement};
 ghost use Rattle.fleet_pibt.specs.Door.{IsSteppedWithDoor};
 ghost use Rattle.fleet_pibt.specs.Goals.{AreGoals};
-ghost use Rattle.fleet_pibt.specs.Order.{wait_of};
-ghost use Rattle.fleet_planner.specs.Courses.{goal, goals_of, away, AreOn, AreStill};
+ghost use Rattle.fleet_planner.specs.Courses.{goals_of, AreOn, AreStill};
 ghost use Rattle.fleet_planner.specs.Turned.{turned, AreFloorTurns, AreKnownTurns};
-ghost use Rattle.fleet_turns.specs.Turns.{AreTurns, IsNewPlanner};
+ghost use Rattle.fleet_turns.specs.Turns.{IsNewPlanner, IsPlannerOf, IsReady};
 ghost use Rattle.fleet_turns.specs.Turn.{IsTurn};
 ghost use Rattle.fleet_turns.specs.inside.Lent.{goal_lent, way_lent, AreLent};
 
 use crate::distances::distances;
 use crate::guide::TurnGuide;
+use crate::tables::{nothing, put};
 use fleet_bridge::{Rooms, rooms_of};
 use fleet_field::FieldCache;
 use fleet_grid::Grid;
@@ -43,8 +43,6 @@ impl From<AllocError> for NoTurns {
 pub struct Fleet<'a> {
     /// The robots' cells.
     pub cells: &'a [u32],
-    /// Where they are under way to.
-    pub goals: &'a [Option<u32>],
     /// How long each robot has waited.
     pub waits: &'a [Option<u64>],
     /// The tick that is being made.
@@ -68,14 +66,15 @@ pub struct TurnPlanner<A: Allocator + Copy = Global> {
     mouth: Vec<u32, A>,
     size: Vec<u32, A>,
     capacity: Vec<u32, A>,
+    goals: Vec<Option<u32>, A>,
     ranks: Vec<Option<u64>, A>,
     stepper: Stepper<A>,
 }
 
 impl<A: Allocator + Copy> Model for TurnPlanner<A> {
-    ghost use Rattle.std.specs.Prelude.{vec_len};
-    ghost use Rattle.fleet_planner.specs.Turned.{turned, AreFloorTurns, AreKnownTurns};
-ghost use Rattle.fleet_turns.specs.Turns.{TurnPlanner};
+    ghost use Rattle.std.specs.Prelude.{◌≡◌, vec_len};
+    ghost use Rattle.fleet_planner.specs.Courses.{goals_of};
+    ghost use Rattle.fleet_turns.specs.Turns.{TurnPlanner};
 
     ghost Value = { TurnPlanner };
 
@@ -92,6 +91,8 @@ ghost use Rattle.fleet_turns.specs.Turns.{TurnPlanner};
         courses = p.guide.courses;
         stepper = p.stepper
     } };
+
+    ghost invariant = { λ p. p.goals.items ≡ goals_of p.guide.courses };
 }
 
 /// Writes to `to` where the robots go from their cells.
@@ -141,7 +142,8 @@ impl<A: Allocator + Copy> TurnPlanner<A> {
         };
         let courses = Courses::new(alloc, robots as usize, grid.cell_count())?;
         let stepper = Stepper::new(alloc, grid.cell_count(), robots)?;
-        let ranks = vec![in alloc; None; robots as usize]?;
+        let goals = nothing(alloc, robots)?;
+        let ranks = nothing(alloc, robots)?;
         let Rooms {
             core,
             door,
@@ -161,9 +163,17 @@ impl<A: Allocator + Copy> TurnPlanner<A> {
             mouth,
             size,
             capacity,
+            goals,
             ranks,
             stepper,
         })
+    }
+
+    /// The robots' goals.
+    pub fn goals(&self) -> &[Option<u32>]
+        ensures { result.now ≡ goals_of self.now.courses }
+    {
+        &self.goals
     }
 
     /// Gives the robots of these changes their new goals, as `Courses::turn` does.
@@ -174,21 +184,20 @@ impl<A: Allocator + Copy> TurnPlanner<A> {
         cells: &[u32],
         turns: &[GoalChange],
     ) -> Result<(), AllocError>
-        requires few { length turns.now ≤ length (goals_of self.old.courses) }
-        requires known { AreKnownTurns (length (goals_of self.old.courses)) turns.now }
-        requires cells { length cells.now ≡ length (goals_of self.old.courses) }
+        requires few { length turns.now ≤ length cells.now }
+        requires known { AreKnownTurns (length cells.now) turns.now }
         requires floor { AreFloorTurns grid.now turns.now }
-        requires on { AreOn grid.now self.old.courses }
+        requires planner { IsPlannerOf grid.now (length cells.now) self.old }
         requires keeps { Keeps grid.now cache.old }
+        ensures planner { IsPlannerOf grid.now (length cells.now) self.new }
         ensures turns { self.new.turns ≡ self.old.turns }
-        ensures stepper { self.new.stepper ≡ self.old.stepper }
-        ensures count { length (goals_of self.new.courses) ≡ length (goals_of self.old.courses) }
-        ensures on { AreOn grid.now self.new.courses }
         ensures keeps { Keeps grid.now cache.new }
         ensures goals { OnOk result (goals_of self.new.courses ≡ turned turns.now (goals_of self.old.courses)) }
         ensures refused { OnErr result (self.new ≡ self.old) }
     {
-        self.guide.courses.turn(cache, grid, cells, turns)
+        self.guide.courses.turn(cache, grid, cells, turns)?;
+        put(&mut self.goals, turns);
+        Ok(())
     }
 
     /// Writes to `to` where the robots go from their cells in the tick that is being made, and returns what was lent for it. Their
@@ -200,31 +209,17 @@ impl<A: Allocator + Copy> TurnPlanner<A> {
         ties: &[TieHook],
         to: &mut [u32],
     ) -> Result<Lending, AllocError>
-        requires placed { IsPlacement grid.now fleet.cells.now }
         requires few { length fleet.cells.now ≤ 512 }
-        requires waited { length fleet.waits.now ≡ length fleet.cells.now }
-        requires asked { length fleet.goals.now ≡ length fleet.cells.now }
         requires tied { length ties.now ≡ length fleet.cells.now }
         requires room { length to.old ≡ length fleet.cells.now }
-        requires early { (r w : ℕ) → wait_of fleet.waits.now r ≡ Some w → w + 1 < 2 ^ 63 }
-        requires turns { AreTurns grid.now self.old.turns }
-        requires many { self.old.turns.robots ≡ length fleet.cells.now }
-        requires made { self.old.stepper ≡ record { cells = length grid.now.letters; robots = length fleet.cells.now } }
-        requires goals { fleet.goals.now ≡ goals_of self.old.courses }
-        requires aimed { AreGoals grid.now fleet.cells.now fleet.waits.now (goal self.old.courses) (away self.old.courses grid.now) }
-        requires on { AreOn grid.now self.old.courses }
+        requires planner { IsPlannerOf grid.now (length fleet.cells.now) self.old }
+        requires ready { IsReady grid.now (goals_of self.old.courses) fleet.cells.now fleet.waits.now }
+        ensures planner { IsPlannerOf grid.now (length fleet.entry.cells.now) self.new }
         ensures turns { self.new.turns ≡ self.old.turns }
-        ensures made { self.new.stepper ≡ self.old.stepper }
         ensures still { AreStill self.old.courses self.new.courses }
-        ensures on { AreOn grid.now self.new.courses }
-        ensures turn { IfOk result (IsTurn grid.now self.old.turns (map (λ h. h.law) ties.now) fleet.entry.goals.now fleet.entry.waits.now fleet.entry.cells.now to.new) }
+        ensures turn { IfOk result (IsTurn grid.now self.old.turns (map (λ h. h.law) ties.now) (goals_of self.old.courses) fleet.entry.waits.now fleet.entry.cells.now to.new) }
     {
-        let Fleet {
-            cells,
-            goals,
-            waits,
-            tick,
-        } = fleet;
+        let Fleet { cells, waits, tick } = fleet;
         let rooms = RoomLists {
             core: &self.guide.core,
             door: &self.door,
@@ -232,7 +227,7 @@ impl<A: Allocator + Copy> TurnPlanner<A> {
             capacity: &self.capacity,
             away: &self.guide.away,
         };
-        let lending = lend(rooms, cells, goals, waits, &mut self.ranks);
+        let lending = lend(rooms, cells, &self.goals, waits, &mut self.ranks);
         self.guide.lend_to(lending.lender, cells);
         let input = StepInput {
             cells,

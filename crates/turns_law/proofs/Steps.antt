@@ -475,3 +475,21 @@ module _ (m : Floor) (t : Turns) (are : AreTurns m t) (reach : ℕ) (depth : ℕ
 
   pub keeps_below : (f : Fleet) → IsFleet m t.robots f → KeepsTurns m t reach depth turn f → (r w : ℕ) → r < t.robots → served_wait t f r ≡ Some w → w < t.robots * turn
   keeps_below f fleet keeps r w known served = on_time_bound f fleet r w known (keeps r w known served)
+
+  -- ---- what a robot with the turn needs, from tick to tick
+
+  pub some_to_go : (f : Fleet) → IsFleet m t.robots f → (e g : ℕ) → e < t.robots → goal_at f.goals e ≡ Some g → (ticks : ℕ) × IsToGo m t reach depth f.cells e g ticks × (0 < ticks) × (ticks ≤ turn)
+  some_to_go f fleet e g known is =
+      let it = to_go_some f fleet e g known is in
+      (it.0, it.1, to_go_positive f.cells e g it.0 it.1, to_go_within f fleet e g known is it.0 it.1)
+
+  pub nearer_to_go : (laws : List TieLaw) (old new : Fleet) → IsFleet m t.robots old → (tick : IsTick m t laws old new) → (e g ticks : ℕ) → IsEldestOf (served_wait t old) t.robots e → goal_at old.goals e ≡ Some g →
+      slice_index new.cells e ≢ g → IsToGo m t reach depth old.cells e g ticks → (fewer : ℕ) × IsToGo m t reach depth new.cells e g fewer × (fewer < ticks)
+  nearer_to_go laws old new fleet tick e g ticks eldest is off go =
+      let mine = served_of old e eldest.age eldest.waits in
+      let same : mine.cell ≡ g = same_value mine.cell g (sym mine.goal_is ∙ is) in
+      let fallen = falls m t are laws old.goals old.waits old.cells new.cells tick.lending tick.turn fleet.placed fleet.robots fleet.waiting e g (let l = eldest.known in let many = fleet.robots in omega (arith, l, many)) is
+      (eldest_ranked t old tick.turn.lent.own e fleet.waiting tick.turn.lent.ranked fleet.early eldest) (fleet.reached e g eldest.known is)
+      (subst (λ (c : ℕ). t.robots ≤ slice_index t.capacity (slice_index t.core c)) same mine.served) reach depth turn limits off ticks go in
+      let less = fallen.less in
+      (fallen.ticks, fallen.is_to_go, omega (arith, less))

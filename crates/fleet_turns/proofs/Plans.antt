@@ -1,0 +1,127 @@
+-- What a plan of turns gives a step, and what it gets from it.
+use Rattle.std.proofs.Common.{◌≡◌, ◌≢◌, ◌↔◌, ℕ, ◌+◌, ◌<◌, ◌≤◌, ◌⊎◌, inl, inr, List, Option, Some, None, IsSome, MatchOption, length, slice_index, slice_index_or, refl, sym, subst, ap, ◌∙◌, arith, ◌==◌}
+use Rattle.std.specs.Prelude.{slice_set, if◌then◌else◌}
+use Rattle.std.proofs.lemmas.Bool.{cases_eq, cases_lt, false≢true}
+use Rattle.std.proofs.lemmas.List.{length-set, get_or-set_same, get_or-set_other}
+use Rattle.fleet_grid.specs.Floor.{Floor, IsFloor, IsNeighbour}
+use Rattle.fleet_grid.specs.Distance.{distance}
+use Rattle.fleet_grid.specs.Step.{IsPlacement}
+use Rattle.fleet_grid.specs.Walk.{AreJoined, AreApart, IsDistance}
+use Rattle.fleet_grid.proofs.Shortest.{distance_is, no_distance}
+use Rattle.fleet_grid.proofs.Walks.{same_along}
+use Rattle.fleet_pibt.specs.Goals.{AreGoals}
+use Rattle.fleet_pibt.specs.Order.{wait_of}
+use Rattle.fleet_planner.specs.Courses.{Courses, goals_of, goal, way_to}
+use Rattle.fleet_planner.specs.Lending.{IsRank, IsLent, goal_at}
+use Rattle.fleet_planner.specs.declared.lending.Lending.{Lending}
+use Rattle.fleet_turns.specs.Turns.{Turns, AreTurns, IsReadyAt}
+use Rattle.fleet_turns.specs.Turn.{goal_in_turn}
+use Rattle.fleet_turns.specs.inside.Lent.{goal_lent, way_lent}
+use Rattle.fleet_turns.proofs.ToCores.{goal_lender, goal_other}
+
+none_or_some : (o : Option ℕ) → (o ≡ None) ⊎ ((x : ℕ) × (o ≡ Some x))
+none_or_some None = inl refl
+none_or_some (Some x) = inr (x, refl)
+
+same_value : (v w : ℕ) → Some v ≡ Some w → v ≡ w
+same_value v w e = cc
+
+-- a core is its own core
+pub core_own : (m : Floor) (t : Turns) → AreTurns m t → (c : ℕ) → IsFloor m c → slice_index t.core (slice_index t.core c) ≡ slice_index t.core c
+core_own m t are c floor =
+    let j = are.rooms.part c floor in
+    sym (same_along (IsNeighbour m) (slice_index t.core) are.away.same c (slice_index t.core c) j.steps j.walk)
+
+way_measured : (m : Floor) (g c : ℕ) → IsFloor m c → MatchOption (distance m c g) (AreApart (IsNeighbour m) c g) (IsDistance (IsNeighbour m) c g)
+way_measured m g c floor = go (distance m c g) refl
+  where
+    go : (o : Option ℕ) → distance m c g ≡ o → MatchOption o (AreApart (IsNeighbour m) c g) (IsDistance (IsNeighbour m) c g)
+    go None e = no_distance m c g floor e
+    go (Some d) e = distance_is m c g d e
+
+-- a rank is there exactly where a wait is
+rank_has : (core capacity : List ℕ) (n : ℕ) (goal_ wait rank : Option ℕ) → IsRank core capacity n goal_ wait rank → IsSome rank ↔ IsSome wait
+rank_has core capacity n goal_ None rank is = (λ s. absurd (false≢true (subst IsSome (is.idle refl) s)), λ s. absurd (false≢true s))
+rank_has core capacity n None (Some w) rank is = (λ _. refl, λ _. subst IsSome (sym (is.aimless w refl refl)) refl)
+rank_has core capacity n (Some g) (Some w) rank is = (
+  λ _. refl,
+  λ _. elim (cases_lt (slice_index capacity (slice_index core g)) n) [
+    | inl less ↦ subst IsSome (sym (is.unserved g w refl refl (λ more. omega (arith, less, more)))) refl
+    | inr more ↦ subst IsSome (sym (is.served g w refl refl more)) refl
+  ],
+)
+
+module _ (core door mouth capacity away cells : List ℕ) (goals waits ranks : List (Option ℕ)) (lending : Lending) (lent : IsLent core door mouth capacity away cells goals waits ranks lending) where
+  ranks_none : lending.lender ≡ None → ranks ≡ lent.own
+  ranks_none none = subst (λ (o : Option ℕ). MatchOption o (ranks ≡ lent.own) (λ x. ranks ≡ slice_set lent.own x (Some 18446744073709551615))) none lent.written
+
+  ranks_some : (x : ℕ) → lending.lender ≡ Some x → ranks ≡ slice_set lent.own x (Some 18446744073709551615)
+  ranks_some x some = subst (λ (o : Option ℕ). MatchOption o (ranks ≡ lent.own) (λ x. ranks ≡ slice_set lent.own x (Some 18446744073709551615))) some lent.written
+
+  pub ranks_length : length ranks ≡ length waits
+  ranks_length = elim (none_or_some lending.lender) [
+    | inl none ↦ ap (λ (rs : List (Option ℕ)). length rs) (ranks_none none) ∙ lent.ranked.same_length
+    | inr some ↦ ap (λ (rs : List (Option ℕ)). length rs) (ranks_some some.0 some.1) ∙ (length-set lent.own some.0 (Some 18446744073709551615) ∙ lent.ranked.same_length)
+  ]
+
+  rank_lender : (x : ℕ) → x < length waits → lending.lender ≡ Some x → wait_of ranks x ≡ Some 18446744073709551615
+  rank_lender x l some = ap (λ (rs : List (Option ℕ)). wait_of rs x) (ranks_some x some) ∙ get_or-set_same lent.own x (Some 18446744073709551615) None (let same = lent.ranked.same_length in omega (arith, l, same))
+
+  rank_other : (r : ℕ) → (lending.lender ≡ Some r → ⊥) → wait_of ranks r ≡ wait_of lent.own r
+  rank_other r ne = elim (none_or_some lending.lender) [
+    | inl none ↦ ap (λ (rs : List (Option ℕ)). wait_of rs r) (ranks_none none)
+    | inr some ↦ ap (λ (rs : List (Option ℕ)). wait_of rs r) (ranks_some some.0 some.1)
+        ∙ get_or-set_other lent.own some.0 r (Some 18446744073709551615) None (λ same. ne (some.1 ∙ ap Some (sym same)))
+  ]
+
+module _ (m : Floor) (t : Turns) (are : AreTurns m t) (cells : List ℕ) (goals waits ranks : List (Option ℕ)) (lending : Lending)
+    (lent : IsLent t.core t.door t.mouth t.capacity t.away cells goals waits ranks lending) (courses : Courses) (core : ℕ)
+    (asked : goals ≡ goals_of courses) (placed : IsPlacement m cells) (many : length waits ≡ length cells)
+    (to_core : (x : ℕ) → lending.lender ≡ Some x → core ≡ slice_index t.core (slice_index cells x)) where
+  is_lender : (r : ℕ) → (lending.lender ≡ Some r) ⊎ (lending.lender ≡ Some r → ⊥)
+  is_lender r = elim (none_or_some lending.lender) [
+    | inl none ↦ inr (λ some. let both : None ≡ Some r = sym none ∙ some in cc)
+    | inr some ↦ elim (cases_eq some.0 r) [ inl same ↦ inl (some.1 ∙ ap Some same) | inr other ↦ inr (λ is. other (same_value some.0 r (sym some.1 ∙ is))) ]
+  ]
+
+  goal_plain : (r : ℕ) → (lending.lender ≡ Some r → ⊥) → goal_lent lending.lender core courses r ≡ goal_at goals r
+  goal_plain r ne = goal_other lending.lender core r courses ne ∙ ap (λ (gs : List (Option ℕ)). goal_at gs r) (sym asked)
+
+  -- the lender's goal is its own core
+  pub own_core : (x : ℕ) → x < length cells → lending.lender ≡ Some x → slice_index t.core core ≡ core
+  own_core x l is =
+      let at = to_core x is in
+      ap (slice_index t.core) at ∙ (core_own m t are (slice_index cells x) (placed.on_floor x l) ∙ sym at)
+
+  pub lent_goals : ((r : ℕ) → r < length cells → IsReadyAt m (slice_index cells r) (goal_at goals r) (wait_of waits r)) →
+      AreGoals m cells ranks (goal_lent lending.lender core courses) (way_lent lending.lender core courses m)
+  lent_goals each = record {
+    waited = λ r l. elim (is_lender r) [
+      | inl is ↦ (
+        λ _. subst IsSome (sym (rank_lender t.core t.door t.mouth t.capacity t.away cells goals waits ranks lending lent r (omega (arith, l, many)) is)) refl,
+        λ _. subst IsSome (sym (goal_lender lending.lender core r courses is)) refl,
+      )
+      | inr ne ↦ (
+          let rank = rank_other t.core t.door t.mouth t.capacity t.away cells goals waits ranks lending lent r ne in
+          let has = rank_has t.core t.capacity (length waits) (goal_at goals r) (wait_of waits r) (wait_of lent.own r) (lent.ranked.each r (omega (arith, l, many))) in (
+            λ s. subst IsSome (sym rank) (has.1 ((each r l).waited.0 (subst IsSome (goal_plain r ne) s))),
+            λ s. subst IsSome (sym (goal_plain r ne)) ((each r l).waited.1 (has.0 (subst IsSome rank s))),
+          ))
+    ];
+    reached = λ r g l is. elim (is_lender r) [
+      | inl lender ↦ (
+          let same : g ≡ slice_index t.core (slice_index cells r) = same_value g core (sym is ∙ goal_lender lending.lender core r courses lender) ∙ to_core r lender in
+          subst (λ (c : ℕ). AreJoined (IsNeighbour m) (slice_index cells r) c) (sym same) (are.rooms.part (slice_index cells r) (placed.on_floor r l)))
+      | inr ne ↦ (each r l).reached g (sym (goal_plain r ne) ∙ is)
+    ];
+    measured = λ r g c l is floor. subst (λ (o : Option ℕ). MatchOption (way_to m o c) (AreApart (IsNeighbour m) c g) (IsDistance (IsNeighbour m) c g)) (sym is) (way_measured m g c floor);
+  }
+
+  pub same_goals : goal_lent lending.lender core courses ≡ goal_in_turn t.core cells lending.lender (goal_at goals)
+  same_goals = go lending.lender to_core
+    where
+      go : (o : Option ℕ) → ((x : ℕ) → o ≡ Some x → core ≡ slice_index t.core (slice_index cells x)) → goal_lent o core courses ≡ goal_in_turn t.core cells o (goal_at goals)
+      go None h = ap (λ (gs : List (Option ℕ)) (r : ℕ). goal_at gs r) (sym asked)
+      go (Some x) h =
+          ap (λ (gs : List (Option ℕ)) (r : ℕ). if r == x then Some core else goal_at gs r) (sym asked)
+          ∙ ap (λ (k : ℕ) (r : ℕ). if r == x then Some k else goal_at goals r) (h x refl)
