@@ -6,7 +6,7 @@ use Rattle.fleet_grid.specs.Walk.{Walks, AreJoined, IsDistance}
 use Rattle.fleet_grid.specs.declared.dir.Dir.{Dir}
 use Rattle.fleet_grid.specs.declared.dir.Dir.TheVariants.{North, East, South, West}
 use Rattle.fleet_grid.proofs.Walks.{same_along}
-use Rattle.fleet_turns.specs.Turns.{AreAway}
+use Rattle.turns_law.specs.Turns.{AreAway}
 use Rattle.fleet_turns.specs.inside.Checked.{IsEven, IsOneNearer, IsAwayAt}
 
 pub all_ways : (P : Dir → Type 0) → P North → P East → P South → P West → (dir : Dir) → P dir

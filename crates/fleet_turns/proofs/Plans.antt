@@ -14,8 +14,9 @@ use Rattle.fleet_pibt.specs.Order.{wait_of}
 use Rattle.fleet_planner.specs.Courses.{Courses, goals_of, goal, way_to}
 use Rattle.fleet_planner.specs.Lending.{IsRank, IsLent, goal_at}
 use Rattle.fleet_planner.specs.declared.lending.Lending.{Lending}
-use Rattle.fleet_turns.specs.Turns.{Turns, AreTurns, IsReadyAt}
-use Rattle.fleet_turns.specs.Turn.{goal_in_turn}
+use Rattle.turns_law.specs.Turns.{Turns, AreTurns}
+use Rattle.fleet_turns.specs.Planning.{IsReadyAt}
+use Rattle.turns_law.specs.Turn.{goal_in_turn}
 use Rattle.fleet_turns.specs.inside.Lent.{goal_lent, way_lent}
 use Rattle.fleet_turns.proofs.ToCores.{goal_lender, goal_other}
 

@@ -9,7 +9,7 @@ use Rattle.fleet_grid.specs.Distance.{distance}
 use Rattle.fleet_grid.proofs.Walks.{same_along}
 use Rattle.fleet_grid.proofs.Shortest.{is_distance, apart_is}
 use Rattle.fleet_planner.specs.Courses.{Courses, goal, way_to}
-use Rattle.fleet_turns.specs.Turns.{AreAway}
+use Rattle.turns_law.specs.Turns.{AreAway}
 use Rattle.fleet_turns.specs.inside.Cores.{way_to_core}
 use Rattle.fleet_turns.specs.inside.Lent.{goal_lent, way_lent}
 

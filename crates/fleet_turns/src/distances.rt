@@ -5,7 +5,7 @@ ghost use Rattle.std.specs.Prelude.{◌≡◌, ℕ, length, slice_index, IfOk, I
 ghost use Rattle.fleet_grid.specs.Floor.{IsFloor, IsNeighbour};
 ghost use Rattle.fleet_grid.specs.Walk.{AreJoined};
 ghost use Rattle.fleet_grid.specs.declared.dir.Dir.{Dir};
-ghost use Rattle.fleet_turns.specs.Turns.{AreAway};
+ghost use Rattle.turns_law.specs.Turns.{AreAway};
 ghost use Rattle.fleet_turns.specs.inside.Checked.{IsEven, IsOneNearer, IsAwayAt};
 
 use crate::to_core::read;

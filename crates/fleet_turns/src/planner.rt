@@ -7,8 +7,8 @@ ghost use Rattle.fleet_pibt.specs.Door.{IsSteppedWithDoor};
 ghost use Rattle.fleet_pibt.specs.Goals.{AreGoals};
 ghost use Rattle.fleet_planner.specs.Courses.{goals_of, AreOn, AreStill};
 ghost use Rattle.fleet_planner.specs.Turned.{turned, AreFloorTurns, AreKnownTurns};
-ghost use Rattle.fleet_turns.specs.Turns.{IsNewPlanner, IsPlannerOf, IsReady};
-ghost use Rattle.fleet_turns.specs.Turn.{IsTurn};
+ghost use Rattle.fleet_turns.specs.Planning.{IsNewPlanner, IsPlannerOf, IsReady};
+ghost use Rattle.turns_law.specs.Turn.{IsTurn};
 ghost use Rattle.fleet_turns.specs.inside.Lent.{goal_lent, way_lent, AreLent};
 
 use crate::distances::distances;
@@ -74,7 +74,7 @@ pub struct TurnPlanner<A: Allocator + Copy = Global> {
 impl<A: Allocator + Copy> Model for TurnPlanner<A> {
     ghost use Rattle.std.specs.Prelude.{◌≡◌, vec_len};
     ghost use Rattle.fleet_planner.specs.Courses.{goals_of};
-    ghost use Rattle.fleet_turns.specs.Turns.{TurnPlanner};
+    ghost use Rattle.fleet_turns.specs.Planning.{TurnPlanner};
 
     ghost Value = { TurnPlanner };
 

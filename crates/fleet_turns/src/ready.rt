@@ -2,7 +2,7 @@
 
 ghost use Rattle.std.specs.Prelude.{◌≡◌, ℕ, ◌<◌, length, true};
 ghost use Rattle.fleet_grid.specs.Floor.{IsFloor};
-ghost use Rattle.fleet_turns.specs.Turns.{IsReady, IsReadyAt};
+ghost use Rattle.fleet_turns.specs.Planning.{IsReady, IsReadyAt};
 
 use fleet_grid::{Grid, is_placement};
 use std::alloc::Allocator;

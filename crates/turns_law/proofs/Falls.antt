@@ -20,8 +20,8 @@ use Rattle.fleet_pibt.proofs.Doors.{way-same}
 use Rattle.fleet_pibt.proofs.Roomy.{roomy-way}
 use Rattle.fleet_planner.specs.Lending.{IsInside, IsNearestInside, IsLentTo, IsShut, IsNothing, IsServedFor, goal_at}
 use Rattle.fleet_planner.specs.declared.lending.Lending.{Lending}
-use Rattle.fleet_turns.specs.Turns.{Turns, AreTurns}
-use Rattle.fleet_turns.specs.Turn.{IsTurn, goal_in_turn}
+use Rattle.turns_law.specs.Turns.{Turns, AreTurns}
+use Rattle.turns_law.specs.Turn.{IsTurn, goal_in_turn}
 use Rattle.turns_law.specs.ToGo.{HasRoom, AreLimits, IsToGo, own, others, inmates}
 use Rattle.turns_law.proofs.Measured.{joined_least}
 use Rattle.turns_law.proofs.Crossing.{turned, out_mouth, beside_in}

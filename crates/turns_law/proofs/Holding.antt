@@ -6,7 +6,7 @@ use Rattle.std.proofs.lemmas.List.{get_or-map, length-map}
 use Rattle.fleet_grid.specs.Floor.{Floor, IsFloor, IsNeighbour}
 use Rattle.fleet_grid.specs.Step.{IsPlacement}
 use Rattle.fleet_grid.specs.Walk.{IsOnSide, HasSide}
-use Rattle.fleet_turns.specs.Turns.{Turns, AreTurns}
+use Rattle.turns_law.specs.Turns.{Turns, AreTurns}
 use Rattle.fleet_planner.specs.Lending.{IsInside}
 use Rattle.turns_law.specs.ToGo.{HasRoom, is_inside, inmates}
 use Rattle.fleet_bound.proofs.WaitCounts.{count_by-cons}

@@ -6,7 +6,7 @@ use Rattle.fleet_grid.specs.Walk.{Walks, Besides, AreJoined, IsBridge, IsOnSide,
 use Rattle.fleet_grid.proofs.Walks.{joined_on, joined_back, same_along}
 use Rattle.fleet_bridge.specs.Rooms.{IsLink, AreInBlock, AreRoomsBy}
 use Rattle.fleet_pibt.proofs.Roomy.{besides-turn}
-use Rattle.fleet_turns.specs.Turns.{Turns, AreAway, AreTurns}
+use Rattle.turns_law.specs.Turns.{Turns, AreAway, AreTurns}
 use Rattle.turns_law.specs.ToGo.{HasRoom}
 use Rattle.turns_law.proofs.Crossing.{turned, leaves, out_mouth, in_door}
 

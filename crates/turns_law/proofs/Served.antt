@@ -6,7 +6,7 @@ use Rattle.fleet_pibt.specs.Eldest.{IsEldest, IsEldestOf}
 use Rattle.fleet_pibt.specs.Order.{wait_of, ComesBefore}
 use Rattle.fleet_pibt.proofs.Precedences.{outranks}
 use Rattle.fleet_planner.specs.Lending.{IsRank, AreRanks, goal_at}
-use Rattle.fleet_turns.specs.Turns.{Turns}
+use Rattle.turns_law.specs.Turns.{Turns}
 use Rattle.turns_law.specs.Fleet.{Fleet, wait_if_served, served_wait}
 
 not_less : (a b : ℕ) → b ≤ a → nat_lt a b ≡ false

@@ -14,7 +14,7 @@ use Rattle.fleet_bound.specs.Waiting.{Moment, IsWithin, IsAdvance, count_before}
 use Rattle.fleet_bound.specs.Waiting as waiting
 use Rattle.fleet_bound.proofs.EldestWait.{none_or_some, eldest-exists}
 use Rattle.fleet_bound.proofs.WaitSteps.{same_value, one_walk, count_before-less, tick-left, none_or_more, pause-left}
-use Rattle.fleet_turns.specs.Turns.{Turns, AreTurns}
+use Rattle.turns_law.specs.Turns.{Turns, AreTurns}
 use Rattle.turns_law.specs.ToGo.{HasRoom, AreLimits, IsToGo, own, others, inmates}
 use Rattle.turns_law.specs.Fleet.{Fleet, IsFleet, IsTick, IsPause, served_wait, served_before, IsOnTime, KeepsTurns, Follows, begins, ticked, paused}
 use Rattle.turns_law.proofs.Measured.{joined_least}

@@ -10,8 +10,8 @@ use Rattle.fleet_pibt.specs.Order.{wait_of}
 use Rattle.fleet_planner.specs.Lending.{goal_at}
 use Rattle.fleet_planner.specs.declared.lending.Lending.{Lending}
 use Rattle.fleet_bound.specs.Waiting.{comes_before}
-use Rattle.fleet_turns.specs.Turns.{Turns}
-use Rattle.fleet_turns.specs.Turn.{IsTurn}
+use Rattle.turns_law.specs.Turns.{Turns}
+use Rattle.turns_law.specs.Turn.{IsTurn}
 use Rattle.turns_law.specs.ToGo.{IsToGo}
 
 -- each robot's cell, its goal, and how many ticks it has had that goal

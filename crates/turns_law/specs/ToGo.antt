@@ -4,7 +4,7 @@ use Rattle.std.specs.List.{count_by, range_with_len}
 use Rattle.fleet_grid.specs.Floor.{Floor, IsFloor, IsNeighbour}
 use Rattle.fleet_grid.specs.Walk.{IsDistance}
 use Rattle.fleet_planner.specs.Lending.{IsInside, IsNearestInside}
-use Rattle.fleet_turns.specs.Turns.{Turns}
+use Rattle.turns_law.specs.Turns.{Turns}
 
 -- whether a robot other than `but` is in the room of this door
 abbrev pub is_inside : (door cells : List ℕ) → (room but robot : ℕ) → Bool

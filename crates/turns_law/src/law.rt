@@ -5,7 +5,7 @@ ghost use Rattle.fleet_grid.specs.Floor.{Floor};
 ghost use Rattle.fleet_hooks.specs.declared.law.TieLaw.{TieLaw};
 ghost use Rattle.fleet_pibt.specs.Eldest.{IsEldestOf};
 ghost use Rattle.fleet_planner.specs.Lending.{goal_at};
-ghost use Rattle.fleet_turns.specs.Turns.{Turns, AreTurns};
+ghost use Rattle.turns_law.specs.Turns.{Turns, AreTurns};
 ghost use Rattle.turns_law.specs.ToGo.{AreLimits, IsToGo};
 ghost use Rattle.turns_law.specs.Fleet.{Fleet, IsFleet, IsTick, IsPause, served_wait, KeepsTurns, Follows};
 

@@ -2,7 +2,7 @@
 use Rattle.std.specs.Prelude.{◌≡◌, ℕ, ◌==◌, List, Option, Some, None, if◌then◌else◌, slice_index}
 use Rattle.fleet_grid.specs.Floor.{Floor}
 use Rattle.fleet_planner.specs.Courses.{Courses, AreOn, goal, way_to}
-use Rattle.fleet_turns.specs.Turns.{AreAway}
+use Rattle.turns_law.specs.Turns.{AreAway}
 
 -- the lender goes to this core, and all others where they went
 abbrev pub goal_lent : Option ℕ → (core : ℕ) → Courses → ℕ → Option ℕ

@@ -1,33 +1,13 @@
--- The rooms of a map, and how far its cells are from their cores: what robots that take turns in rooms are planned by.
+-- A planner of turns, and when it may plan a tick.
 use Rattle.std.specs.Prelude.{◌≡◌, ◌↔◌, ℕ, ◌+◌, ◌^◌, ◌<◌, List, Option, Some, None, IsSome, replicate, length, slice_index}
-use Rattle.fleet_grid.specs.Floor.{Floor, IsFloor, IsNeighbour}
+use Rattle.fleet_grid.specs.Floor.{Floor, IsNeighbour}
 use Rattle.fleet_grid.specs.Step.{IsPlacement}
-use Rattle.fleet_grid.specs.Walk.{AreJoined, IsDistance}
-use Rattle.fleet_bridge.specs.Rooms.{AreRoomsBy}
+use Rattle.fleet_grid.specs.Walk.{AreJoined}
 use Rattle.fleet_pibt.specs.Order.{wait_of}
 use Rattle.fleet_pibt.specs.Size.{Size}
 use Rattle.fleet_planner.specs.Courses.{Courses, goals_of, AreOn}
 use Rattle.fleet_planner.specs.Lending.{goal_at}
-
--- lists by cells, and the number of robots
-pub record Turns : Type 0 where
-  pub core : List ℕ
-  pub door : List ℕ
-  pub mouth : List ℕ
-  pub size : List ℕ
-  pub capacity : List ℕ
-  pub away : List ℕ
-  pub robots : ℕ
-
--- neighbours have one core, and `away` is each cell's distance from its own
-pub record AreAway (m : Floor) (core away : List ℕ) : Type 0 where
-  pub same : (a b : ℕ) → IsNeighbour m a b → slice_index core a ≡ slice_index core b
-  pub measured : (c : ℕ) → IsFloor m c → IsDistance (IsNeighbour m) c (slice_index core c) (slice_index away c)
-
--- they are those of the map
-pub record AreTurns (m : Floor) (t : Turns) : Type 0 where
-  pub rooms : AreRoomsBy m (slice_index t.core) (slice_index t.door) (slice_index t.mouth) (slice_index t.size) (slice_index t.capacity)
-  pub away : AreAway m t.core t.away
+use Rattle.turns_law.specs.Turns.{Turns, AreTurns}
 
 -- a planner of turns: what it plans by, what the robots are under way to, and for how many cells and robots its tables were made
 pub record TurnPlanner : Type 0 where

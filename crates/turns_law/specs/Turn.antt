@@ -6,7 +6,7 @@ use Rattle.fleet_pibt.specs.Door.{IsSteppedWithDoor}
 use Rattle.fleet_pibt.specs.Eldest.{IsEldest}
 use Rattle.fleet_planner.specs.Lending.{IsLent, goal_at}
 use Rattle.fleet_planner.specs.declared.lending.Lending.{Lending}
-use Rattle.fleet_turns.specs.Turns.{Turns}
+use Rattle.turns_law.specs.Turns.{Turns}
 
 -- the robots' goals: the lender's is the core of its cell's part, and all others have their own. From a cell of a room the way to the
 -- core begins with the way to the mouth.
