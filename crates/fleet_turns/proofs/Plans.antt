@@ -9,15 +9,19 @@ use Rattle.fleet_grid.specs.Step.{IsPlacement}
 use Rattle.fleet_grid.specs.Walk.{AreJoined, AreApart, IsDistance}
 use Rattle.fleet_grid.proofs.Shortest.{distance_is, no_distance}
 use Rattle.fleet_grid.proofs.Walks.{same_along}
+use Rattle.fleet_hooks.specs.declared.law.TieLaw.{TieLaw}
+use Rattle.fleet_pibt.specs.Door.{IsSteppedWithDoor}
+use Rattle.fleet_pibt.specs.Eldest.{IsEldest}
 use Rattle.fleet_pibt.specs.Goals.{AreGoals}
 use Rattle.fleet_pibt.specs.Order.{wait_of}
-use Rattle.fleet_planner.specs.Courses.{Courses, goals_of, goal, way_to}
+use Rattle.fleet_pibt.specs.declared.door.Door.{Door}
+use Rattle.fleet_planner.specs.Courses.{Courses, AreOn, goals_of, goal, way_to}
 use Rattle.fleet_planner.specs.Lending.{IsRank, IsLent, goal_at}
 use Rattle.fleet_planner.specs.declared.lending.Lending.{Lending}
-use Rattle.turns_law.specs.Turns.{Turns, AreTurns}
+use Rattle.turns_law.specs.Turns.{Turns, AreAway, AreTurns}
 use Rattle.fleet_turns.specs.Planning.{IsReadyAt}
 use Rattle.turns_law.specs.Turn.{goal_in_turn}
-use Rattle.fleet_turns.specs.inside.Lent.{goal_lent, way_lent}
+use Rattle.fleet_turns.specs.inside.Lent.{goal_lent, way_lent, AreLent}
 use Rattle.fleet_turns.proofs.ToCores.{goal_lender, goal_other}
 
 none_or_some : (o : Option ℕ) → (o ≡ None) ⊎ ((x : ℕ) × (o ≡ Some x))
@@ -122,7 +126,51 @@ module _ (m : Floor) (t : Turns) (are : AreTurns m t) (cells : List ℕ) (goals 
   same_goals = go lending.lender to_core
     where
       go : (o : Option ℕ) → ((x : ℕ) → o ≡ Some x → core ≡ slice_index t.core (slice_index cells x)) → goal_lent o core courses ≡ goal_in_turn t.core cells o (goal_at goals)
-      go None h = ap (λ (gs : List (Option ℕ)) (r : ℕ). goal_at gs r) (sym asked)
+      go None h = ap goal_at (sym asked)
       go (Some x) h =
-          ap (λ (gs : List (Option ℕ)) (r : ℕ). if r == x then Some core else goal_at gs r) (sym asked)
-          ∙ ap (λ (k : ℕ) (r : ℕ). if r == x then Some k else goal_at goals r) (h x refl)
+          let f : List (Option ℕ) → ℕ → Option ℕ = λ gs r. if r == x then Some core else goal_at gs r in
+          let k : ℕ → ℕ → Option ℕ = λ at r. if r == x then Some at else goal_at goals r in
+          ap f (sym asked) ∙ ap k (h x refl)
+
+  -- the same of values that are equal to these
+  pub step_goals : (lender : Option ℕ) (aims : Courses) (order : List (Option ℕ)) → lender ≡ lending.lender → aims ≡ courses → order ≡ ranks →
+      ((r : ℕ) → r < length cells → IsReadyAt m (slice_index cells r) (goal_at goals r) (wait_of waits r)) →
+      AreGoals m cells order (goal_lent lender core aims) (way_lent lender core aims m)
+  step_goals lender aims order same_lender same_aims same_order each =
+      subst (λ (l : Option ℕ). AreGoals m cells order (goal_lent l core aims) (way_lent l core aims m)) (sym same_lender)
+      (subst (λ (a : Courses). AreGoals m cells order (goal_lent lending.lender core a) (way_lent lending.lender core a m)) (sym same_aims)
+      (subst (λ (rs : List (Option ℕ)). AreGoals m cells rs (goal_lent lending.lender core courses) (way_lent lending.lender core courses m)) (sym same_order) (lent_goals each)))
+
+  pub step_shows : (cores aways : List ℕ) (lender : Option ℕ) (aims : Courses) → cores ≡ t.core → aways ≡ t.away → lender ≡ lending.lender → aims ≡ courses → AreOn m courses →
+      ((x : ℕ) → lending.lender ≡ Some x → x < length cells) → AreLent m cores aways lender core aims
+  step_shows cores aways lender aims same_core same_away same_lender same_aims on known = record {
+    on = subst (AreOn m) (sym same_aims) on;
+    away_is = subst (λ (x : List ℕ). AreAway m x aways) (sym same_core) (subst (AreAway m t.core) (sym same_away) are.away);
+    own = λ x is. (
+      let is_ : lending.lender ≡ Some x = sym same_lender ∙ is in
+      subst (λ (l : List ℕ). slice_index l core ≡ core) (sym same_core) (own_core x (known x is_) is_));
+  }
+
+  pub turn_stepped : (laws : List TieLaw) (door : Option Door) (to : List ℕ) (lender : Option ℕ) (aims : Courses) (order : List (Option ℕ)) → lender ≡ lending.lender → aims ≡ courses → order ≡ ranks →
+      IsSteppedWithDoor m door order (goal_lent lender core aims) laws cells to → IsSteppedWithDoor m door ranks (goal_in_turn t.core cells lending.lender (goal_at goals)) laws cells to
+  turn_stepped laws door to lender aims order same_lender same_aims same_order stepped =
+      subst (λ (gs : ℕ → Option ℕ). IsSteppedWithDoor m door ranks gs laws cells to) same_goals
+      (subst (λ (a : Courses). IsSteppedWithDoor m door ranks (goal_lent lending.lender core a) laws cells to) same_aims
+      (subst (λ (l : Option ℕ). IsSteppedWithDoor m door ranks (goal_lent l core aims) laws cells to) same_lender
+      (subst (λ (rs : List (Option ℕ)). IsSteppedWithDoor m door rs (goal_lent lender core aims) laws cells to) same_order stepped)))
+
+-- lists that are read through slices
+pub lent_over : (core core' door door' mouth mouth' capacity capacity' away away' cells : List ℕ) (goals goals' waits ranks : List (Option ℕ)) (lending : Lending) →
+    core ≡ core' → door ≡ door' → mouth ≡ mouth' → capacity ≡ capacity' → away ≡ away' → goals ≡ goals' →
+    IsLent core door mouth capacity away cells goals waits ranks lending → IsLent core' door' mouth' capacity' away' cells goals' waits ranks lending
+lent_over core core' door door' mouth mouth' capacity capacity' away away' cells goals goals' waits ranks lending a b c d e f lent =
+    subst (λ (x : List ℕ). IsLent x door' mouth' capacity' away' cells goals' waits ranks lending) a
+    (subst (λ (x : List ℕ). IsLent core x mouth' capacity' away' cells goals' waits ranks lending) b
+    (subst (λ (x : List ℕ). IsLent core door x capacity' away' cells goals' waits ranks lending) c
+    (subst (λ (x : List ℕ). IsLent core door mouth x away' cells goals' waits ranks lending) d
+    (subst (λ (x : List ℕ). IsLent core door mouth capacity x cells goals' waits ranks lending) e
+    (subst (λ (x : List (Option ℕ)). IsLent core door mouth capacity away cells x waits ranks lending) f lent)))))
+
+-- who goes first is one of the robots
+pub eldest_known : (waits ranks : List (Option ℕ)) (x : ℕ) → length ranks ≡ length waits → IsEldest ranks x → x < length waits
+eldest_known waits ranks x same eldest = let l = eldest.known in omega (arith, l, same)

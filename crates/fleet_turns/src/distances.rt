@@ -144,12 +144,20 @@ fn is_away<B: Allocator + Copy>(grid: &Grid<B>, core: &[u32], away: &[u32], cell
     }
 }
 
+/// Whether a cell passes the check, or is a wall.
+fn passes<B: Allocator + Copy>(grid: &Grid<B>, core: &[u32], away: &[u32], cell: u32) -> bool
+    ensures { result ≡ true → IsFloor grid.now cell → IsAwayAt grid.now core.now away.now cell }
+{
+    !grid.is_floor(cell) || is_away(grid, core, away, cell)
+}
+
 /// Whether all floor cells pass the check.
 fn are_away<B: Allocator + Copy>(grid: &Grid<B>, core: &[u32], away: &[u32]) -> bool
     ensures { result ≡ true → (c : ℕ) → IsFloor grid.now c → IsAwayAt grid.now core.now away.now c }
 {
-    for cell in 0..grid.cell_count() {
-        if grid.is_floor(cell) && !is_away(grid, core, away, cell) {
+    let count = grid.cell_count();
+    for cell in 0..count {
+        if !passes(grid, core, away, cell) {
             return false;
         }
     }

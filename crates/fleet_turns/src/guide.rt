@@ -1,6 +1,6 @@
 //! The robots' goals while a turn may be lent.
 
-ghost use Rattle.std.specs.Prelude.{◌≡◌, ℕ, Some, slice_index};
+ghost use Rattle.std.specs.Prelude.{◌≡◌, ℕ, Some, true, false, slice_index};
 ghost use Rattle.fleet_planner.specs.Courses.{AreStill};
 ghost use Rattle.fleet_turns.specs.inside.Lent.{goal_lent, way_lent, AreLent};
 ghost use Rattle.std.proofs.Common.{refl, ◌∙◌};
@@ -36,6 +36,17 @@ impl<A: Allocator + Copy> TurnGuide<A> {
             core: &self.core,
             away: &self.away,
             goal: self.goal,
+        }
+    }
+
+    /// Whether this robot is lent a turn.
+    fn is_lender(&self, robot: u32) -> bool
+        ensures is { result ≡ true → self.now.lender ≡ Some robot }
+        ensures other { result ≡ false → self.now.lender ≡ Some robot → ⊥ }
+    {
+        match self.lender {
+            Some(lender) => lender == robot,
+            None => false,
         }
     }
 
@@ -75,7 +86,7 @@ impl<A: Allocator + Copy> Guide for TurnGuide<A> {
         robot: u32,
         cell: u32,
     ) -> Result<Outlook, AllocError> {
-        if self.lender != Some(robot) {
+        if !self.is_lender(robot) {
             return self.courses.outlook(grid, robot, cell);
         }
         let to_core = self.to_core();
