@@ -75,6 +75,6 @@ module _ (m : Floor) (core away : List ℕ) (checked : (c : ℕ) → IsFloor m c
   are_away = record {
     same = same;
     measured = λ c floor. (
-      let it = way (slice_index away c) c floor refl in
-      record { walk = (it.0, it.1, it.2); least = λ cs walk. least c (slice_index core c) cs (floor_core c floor) (own c floor) walk });
+        let it = way (slice_index away c) c floor refl in
+        record { walk = (it.0, it.1, it.2); least = λ cs walk. least c (slice_index core c) cs (floor_core c floor) (own c floor) walk });
   }

@@ -147,8 +147,8 @@ module _ (m : Floor) (t : Turns) (are : AreTurns m t) (cells : List ℕ) (goals 
     on = subst (AreOn m) (sym same_aims) on;
     away_is = subst (λ (x : List ℕ). AreAway m x aways) (sym same_core) (subst (AreAway m t.core) (sym same_away) are.away);
     own = λ x is. (
-      let is_ : lending.lender ≡ Some x = sym same_lender ∙ is in
-      subst (λ (l : List ℕ). slice_index l core ≡ core) (sym same_core) (own_core x (known x is_) is_));
+        let is_ : lending.lender ≡ Some x = sym same_lender ∙ is in
+        subst (λ (l : List ℕ). slice_index l core ≡ core) (sym same_core) (own_core x (known x is_) is_));
   }
 
   pub turn_stepped : (laws : List TieLaw) (door : Option Door) (to : List ℕ) (lender : Option ℕ) (aims : Courses) (order : List (Option ℕ)) → lender ≡ lending.lender → aims ≡ courses → order ≡ ranks →

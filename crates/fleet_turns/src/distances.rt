@@ -9,7 +9,7 @@ ghost use Rattle.turns_law.specs.Turns.{AreAway};
 ghost use Rattle.fleet_turns.specs.inside.Checked.{IsEven, IsOneNearer, IsAwayAt};
 
 use crate::to_core::read;
-use fleet_grid::{Dir, Grid, FAR};
+use fleet_grid::{Dir, FAR, Grid};
 use std::alloc::{AllocError, Allocator};
 
 /// Puts a number at a place, if the list has it.

@@ -79,17 +79,17 @@ impl<A: Allocator + Copy> Model for TurnPlanner<A> {
     ghost Value = { TurnPlanner };
 
     ghost view = { λ p. record {
-        turns = record {
-            core = p.guide.core.items;
-            door = p.door.items;
-            mouth = p.mouth.items;
-            size = p.size.items;
-            capacity = p.capacity.items;
-            away = p.guide.away.items;
-            robots = vec_len p.ranks
-        };
-        courses = p.guide.courses;
-        stepper = p.stepper
+      turns = record {
+        core = p.guide.core.items;
+        door = p.door.items;
+        mouth = p.mouth.items;
+        size = p.size.items;
+        capacity = p.capacity.items;
+        away = p.guide.away.items;
+        robots = vec_len p.ranks;
+      };
+      courses = p.guide.courses;
+      stepper = p.stepper;
     } };
 
     ghost invariant = { λ p. p.goals.items ≡ goals_of p.guide.courses };

@@ -101,7 +101,13 @@ fn turn_lent_in_a_stub(rt: HostRuntime) {
     let there = planned(&rt, alloc, [0, 3, 2], [Some(3), Some(0), Some(4)], waits);
     assert!(rt; there == ([0, 2, 1], shut(Some(2))));
     // Robot 1 is idle there.
-    let idle = planned(&rt, alloc, [0, 3, 2], [Some(3), None, Some(4)], [Some(9), None, Some(1)]);
+    let idle = planned(
+        &rt,
+        alloc,
+        [0, 3, 2],
+        [Some(3), None, Some(4)],
+        [Some(9), None, Some(1)],
+    );
     assert!(rt; idle == ([0, 3, 1], shut(Some(2))));
 }
 

@@ -122,14 +122,14 @@ module _ (m : Floor) (t : Turns) (are : AreTurns m t) (cells : List ℕ) (placed
     cells = map (slice_index cells) those;
     many = omega (arith, many, length-map those (slice_index cells));
     apart = λ i j less l same. (
-      let lj : j < length those = omega (arith, l, length-map those (slice_index cells)) in
-      let li : i < length those = omega (arith, less, lj) in
-      placed.distinct (get_or those i 0) (get_or those j 0) (rising i j less lj) (each j lj).known (sym (cell_at i li) ∙ (same ∙ cell_at j lj)));
+        let lj : j < length those = omega (arith, l, length-map those (slice_index cells)) in
+        let li : i < length those = omega (arith, less, lj) in
+        placed.distinct (get_or those i 0) (get_or those j 0) (rising i j less lj) (each j lj).known (sym (cell_at i li) ∙ (same ∙ cell_at j lj)));
     inside = λ i l. (
-      let li : i < length those = omega (arith, l, length-map those (slice_index cells)) in
-      let it = each i li in
-      subst (λ (x : ℕ). IsOnSide (IsNeighbour m) (slice_index t.mouth d) d x) (sym (cell_at i li))
-      ((told m t are g floor has (slice_index cells (get_or those i 0)) (placed.on_floor (get_or those i 0) it.known)).0 it.inside));
+        let li : i < length those = omega (arith, l, length-map those (slice_index cells)) in
+        let it = each i li in
+        subst (λ (x : ℕ). IsOnSide (IsNeighbour m) (slice_index t.mouth d) d x) (sym (cell_at i li))
+        ((told m t are g floor has (slice_index cells (get_or those i 0)) (placed.on_floor (get_or those i 0) it.known)).0 it.inside));
   }
 
   pub room_holds : (inmates t.door cells (slice_index t.door g) e < length cells) × (inmates t.door cells (slice_index t.door g) e ≤ slice_index t.size (slice_index t.door g))

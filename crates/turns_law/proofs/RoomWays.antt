@@ -87,8 +87,8 @@ module _ (m : Floor) (from : List ℕ) (e mo d : ℕ) (known : e < length from) 
   pub way_in : (g : ℕ) → IsLone → here ≡ mo → In g → ((w : ℕ) → IsNeighbour m here w → (In w) ⊎ (In w → ⊥)) → HasNext m here g → HasWayWithDoor m None from g here
   way_in g lone at inside tell it = (way-same m from g here).1 (one-way m from g here it.next it.near it.closer (elim (tell it.next it.near) [
     | inl in_next ↦ (λ (beyond : IsFullBeyond m from here it.next).
-      let robot = beyond.full it.next (record { steps = []; walk = refl }) in
-      empty it.next g lone in_next it.closer robot.0 robot.1 robot.2)
+        let robot = beyond.full it.next (record { steps = []; walk = refl }) in
+        empty it.next g lone in_next it.closer robot.0 robot.1 robot.2)
     | inr out ↦ (λ (_ : IsFullBeyond m from here it.next). enters m mo d room.bridge it.next g it.closer.near it.closer.far it.closer.near_is
         (subst (λ (x : ℕ). IsDistance (IsNeighbour m) x g it.closer.far) at it.closer.far_is) it.closer.less inside out)
   ]))

@@ -76,8 +76,8 @@ eldest_ranked t f own e many are early eldest = record {
   age = eldest.age + 9223372036854775808;
   waits = (are.each e (let l = eldest.known in omega (arith, l, many))).served mine.cell eldest.age mine.goal_is mine.wait_is (let l = mine.served in omega (arith, l, many));
   first = λ r l ne. (
-    let known : r < length f.waits = (let same = are.same_length in omega (arith, l, same)) in
-    rank_before t (length f.waits) (goal_at f.goals r) (wait_of f.waits r) (wait_of own r) eldest.age e r many (are.each r known) (early r) (eldest.first r (omega (arith, known, many)) ne));
+      let known : r < length f.waits = (let same = are.same_length in omega (arith, l, same)) in
+      rank_before t (length f.waits) (goal_at f.goals r) (wait_of f.waits r) (wait_of own r) eldest.age e r many (are.each r known) (early r) (eldest.first r (omega (arith, known, many)) ne));
 }
   where
     mine : HasServed t (goal_at f.goals e) (wait_of f.waits e) eldest.age
