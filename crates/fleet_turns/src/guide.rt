@@ -55,8 +55,8 @@ impl<A: Allocator + Copy> TurnGuide<A> {
         ensures lender { self.new.lender ≡ lender }
         ensures goal { (x : ℕ) → lender ≡ Some x → self.new.goal ≡ slice_index self.old.core.items (slice_index cells.now x) }
         ensures courses { self.new.courses ≡ self.old.courses }
-        ensures core { self.new.core ≡ self.old.core }
-        ensures away { self.new.away ≡ self.old.away }
+        ensures core { self.new.core.items ≡ self.old.core.items }
+        ensures away { self.new.away.items ≡ self.old.away.items }
     {
         self.lender = lender;
         if let Some(robot) = lender {
