@@ -1,4 +1,0 @@
-pub mod ToCores
-pub mod CoreDistances
-pub mod Plans
-pub mod Puts
