@@ -1,0 +1,9 @@
+pub mod Measured
+pub mod Crossing
+pub mod RoomWays
+pub mod Inmates
+pub mod RoomFacts
+pub mod Falls
+pub mod Served
+pub mod Holding
+pub mod Steps

@@ -1,0 +1,4 @@
+pub mod Turns
+pub mod Turn
+pub mod ToGo
+pub mod Fleet
