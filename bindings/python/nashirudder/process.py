@@ -41,6 +41,7 @@ def look_in(words: Sequence[str]) -> Look:
         eldest=int(named["eldest"]) if "eldest" in named else None,
         within=int(named["within"]) if "within" in named else None,
         cells=[int(word) for word in words[at + 1 :]],
+        blocked=int(named["blocked"]) if "blocked" in named else None,
     )
 
 

@@ -67,8 +67,10 @@ class Look:
 
     `tick` is the number of ticks made so far. `chapter` is the number of the present chapter, from 0, and `entries` how
     many takes, ticks and shuts it has. `eldest` is the robot that has waited longest, None if no robot has an errand.
-    `within` is the number of ticks within which all errands are done if none is added, None on a map with a bridge.
-    `cells` has each robot's cell, by the robot's number.
+    `within` is the number of ticks within which all errands are done if none is added; None on a map with a bridge, and over
+    pipes to `fleet talk` only where an errand goes to a cell that is not roomy. `cells` has each robot's cell, by the robot's
+    number. `blocked` is told by `fleet talk` alone: where `eldest` stands before a dead end that is full of robots, the cell
+    next to it there.
     """
 
     tick: int
@@ -77,6 +79,7 @@ class Look:
     eldest: Optional[int]
     within: Optional[int]
     cells: List[int]
+    blocked: Optional[int] = None
 
     @property
     def idle(self) -> bool:

@@ -98,6 +98,23 @@ class CallsTest(OnRing):
                 shutil.rmtree(traces)
                 raise KeyError("within")
 
+    def test_a_look_on_a_map_with_bridges(self):
+        # three cells in a line: the ends are not roomy for two robots, the middle is
+        with open(self.map, "w", encoding="utf-8") as file:
+            file.write("type octile\nheight 1\nwidth 3\nmap\n...\n")
+        with self.fleet(robots=[0, 1]) as fleet:
+            fleet.go(0, 1).accepted()
+            look = fleet.look()
+            # the longest queue times two robots times two edges
+            self.assertEqual((look.eldest, look.within, look.blocked), (0, 4, None))
+            fleet.tick(1)
+            fleet.go(0, 0).accepted()
+            self.assertIsNone(fleet.look().within)
+        with self.fleet(robots=[0, 1, 2]) as fleet:
+            fleet.go(0, 2).accepted()
+            look = fleet.look()
+            self.assertEqual((look.eldest, look.within, look.blocked), (0, None, 1))
+
     def test_an_order_that_stands_is_not_refused(self):
         with self.fleet(roll=False, chapter=2) as fleet:
             errands = [fleet.go(0, cell) for cell in (1, 2, 5)]
