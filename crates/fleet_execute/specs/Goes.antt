@@ -13,11 +13,11 @@ use Rattle.fleet_execute.specs.declared.fault.TurnFault.TheVariants.{Conflict, N
 use Rattle.fleet_execute.specs.declared.plan.Plan.{Plan}
 use Rattle.fleet_execute.specs.Text.{move_line}
 
--- the robots' cells after so many steps
+-- the robots' cells after this number of steps
 abbrev pub cells_at : ℕ → List ℕ → ℕ → List ℕ
 cells_at robots cells time = take robots (drop (time * robots) cells)
 
--- how many steps so many cells are
+-- how many steps this number of cells is
 abbrev pub steps_in : ℕ → List ℕ → ℕ
 steps_in robots cells = length cells / robots - 1
 

@@ -3,7 +3,7 @@
 ghost use Rattle.std.specs.Prelude.{◌≡◌, ◌≤◌, ◌<◌, length};
 ghost use Rattle.fleet_execute.specs.Goes.{cells_at, steps_in};
 
-/// How many steps so many cells are, for so many robots.
+/// How many steps this number of cells is, for this number of robots.
 pub(crate) fn steps_in(robots: u32, cells: &[u32]) -> u64
     requires some { 0 < robots }
     requires whole { robots ≤ length cells.now }
@@ -12,7 +12,7 @@ pub(crate) fn steps_in(robots: u32, cells: &[u32]) -> u64
     (cells.len() / robots as usize) as u64 - 1
 }
 
-/// The robots' cells after so many steps.
+/// The robots' cells after this number of steps.
 pub(crate) fn cells_at(robots: u32, cells: &[u32], time: u64) -> &[u32]
     requires some { 0 < robots }
     requires whole { robots ≤ length cells.now }

@@ -74,7 +74,7 @@ pub record IsOnTime (m : Floor) (t : Turns) (reach : ℕ) (depth : ℕ → ℕ) 
 abbrev pub KeepsTurns : (m : Floor) (t : Turns) (reach : ℕ) (depth : ℕ → ℕ) (turn : ℕ) → Fleet → Type 0
 KeepsTurns m t reach depth turn f = (r w : ℕ) → r < t.robots → served_wait t f r ≡ Some w → IsOnTime m t reach depth turn f r w
 
--- from a fleet in which a robot has a served goal there came this one by so many ticks, without that the robot arrived
+-- from a fleet in which a robot has a served goal there came this one by this number of ticks, in which the robot did not arrive
 pub data Follows (m : Floor) (t : Turns) (laws : List TieLaw) (r : ℕ) (from : Fleet) : Fleet → ℕ → Type 0 where
   begins : (w : ℕ) → IsFleet m t.robots from → served_wait t from r ≡ Some w → Follows m t laws r from from 0
   ticked : {f : Fleet} {ticks : ℕ} (now : Fleet) (more g : ℕ) → Follows m t laws r from f ticks → IsTick m t laws f now → IsFleet m t.robots now →

@@ -28,7 +28,7 @@ pub record AreLimits (m : Floor) (t : Turns) (reach : ℕ) (depth : ℕ → ℕ)
   pub least : reach ≤ turn
   pub rooms : (c : ℕ) → IsFloor m c → HasRoom t c → reach + min (t.robots - 1) (slice_index t.size (slice_index t.door c)) * depth (slice_index t.door c) ≤ turn
 
--- so many ticks are enough for the robot, while it has the turn, to go from its cell to the goal
+-- this number of ticks is enough for the robot, while it has the turn, to go from its cell to the goal
 pub data IsToGo (m : Floor) (t : Turns) (reach : ℕ) (depth : ℕ → ℕ) (cells : List ℕ) (robot goal ticks : ℕ) : Type 0 where
   -- nobody else is in the goal's room, or it is in none: its own way
   own : (far : ℕ) → (HasRoom t goal → (r : ℕ) → IsInside t.door cells (slice_index t.door goal) robot r → ⊥) →
