@@ -108,7 +108,10 @@ impl<A: Allocator + Copy> World<A> {
     /// The core, and the closures next to it.
     pub fn apart(self) -> (Core<A>, RobotHooks<A>)
         requires { 0 ≤ self.core.number }
-        ensures { result.0 ≡ self.core }
+        ensures core { result.0 ≡ self.core }
+        ensures ties { map (λ h. h.law) result.1.ties.items ≡ self.core.ties }
+        ensures arrivals { AreArrivals self.core.history (map (λ h. h.law) result.1.arrivals.items) }
+        ensures farewells { AreFarewells self.core.history (spare_laws result.1.farewells.items) }
     {
         (self.core, self.robots)
     }

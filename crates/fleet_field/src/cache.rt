@@ -1,6 +1,6 @@
 //! Fields that are not held any more, kept for the next hold.
 
-ghost use Rattle.std.specs.Prelude.{◌≡◌, ◌⊎◌, ◌↔◌, ℕ, ◌<◌, ◌≤◌, [], ◌∷◌, length, slice_index, take, IfSome, IfOk, OnOk, OnErr, IsTrue};
+ghost use Rattle.std.specs.Prelude.{◌≡◌, ◌⊎◌, ◌↔◌, ℕ, ◌<◌, ◌≤◌, [], ◌∷◌, length, slice_index, take, IfSome, IsSome, IfOk, OnOk, OnErr, IsTrue};
 ghost use Rattle.std.specs.List.{All, Contains};
 ghost use Rattle.fleet_grid.specs.Floor.{Floor, IsFloor};
 ghost use Rattle.fleet_field.specs.Field.{Aim, IsField};
@@ -103,10 +103,11 @@ impl<A: Allocator + Copy> FieldCache<A> {
         }
     }
 
-    /// Removes the kept field of a goal and returns it.
+    /// Removes the kept field of a goal and returns it; none if it is not kept.
     pub fn take(&mut self, goal: u32) -> Option<Compass<A>>
         ensures goal { IfSome result (λ field. field.goal ≡ goal) }
         ensures kept { IfSome result (λ field. Contains self.old.kept field) }
+        ensures found { HasKept self.old.kept goal → IsSome result }
         ensures others { All (Contains self.old.kept) self.new.kept }
     {
         take_field(&mut self.kept, goal)

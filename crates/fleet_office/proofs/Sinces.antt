@@ -1,8 +1,9 @@
 -- Orders and notices since an office began go on with each entry, with each chapter, and in the next office.
 use Rattle.std.proofs.Common.{◌≡◌, ℕ, ◌+◌, ◌<◌, List, [], ◌∷◌, ◌++◌, length, map, refl, ap, sym, ◌∙◌, subst, arith, append_assoc, length-append}
 use Rattle.std.specs.Prelude.{slice_index_or}
-use Rattle.std.specs.List.{flat_map}
-use Rattle.std.proofs.lemmas.List.{append-nil, map-append}
+use Rattle.std.proofs.lemmas.List.{append-nil, map-append, length-map}
+use Rattle.std.proofs.lemmas.List.FromFn.{length-range_with_len}
+use Rattle.std.specs.List.{flat_map, range_with_len}
 use Rattle.std.proofs.lemmas.List.Concat.{flat_map-append}
 use Rattle.fleet_grid.specs.Floor.{Floor}
 use Rattle.fleet_book.specs.declared.notice.Notice.{Notice}
@@ -10,11 +11,11 @@ use Rattle.fleet_book.specs.declared.order.Order.{Order}
 use Rattle.fleet_history.specs.declared.history.ClientState.{ClientState}
 use Rattle.fleet_history.specs.declared.history.Entry.{Entry}
 use Rattle.fleet_history.specs.declared.history.Opening.{Opening}
-use Rattle.fleet_history.specs.History.{History, start, after, with_entries, clients, client_at, unknown_client, taken_count, accepted_count}
+use Rattle.fleet_history.specs.History.{History, start, after, robots, with_entries, clients, client_at, unknown_client, taken_count, accepted_count}
 use Rattle.fleet_history.specs.Laws.{orders, order_by}
 use Rattle.fleet_history.specs.Legal as legal
 use Rattle.fleet_history.specs.Legal.{IsLegal, Fits}
-use Rattle.fleet_history.specs.Next.{next_opening}
+use Rattle.fleet_history.specs.Next.{next_opening, robot_after}
 use Rattle.fleet_history.specs.Notices.{notices, told, noticed_count, seq_of}
 use Rattle.fleet_history.specs.Numbering.{order_number, accepted_number}
 use Rattle.fleet_history.specs.Rings.{IsEndOf, KeepsRing}
@@ -30,7 +31,7 @@ use Rattle.fleet_office.specs.Since.{GoesOn, IsSince, IsChapterSince}
 
 module _ {A : Type 0} (began : World A) where
   pub since-begins : began.history.entries ≡ [] → IsLegal began.floor began.history → IsSince began began
-  since-begins none lawful = record { begun = none; legal = lawful; floor = refl; limits = refl; ties = refl; later = omega arith; opening = λ same. refl }
+  since-begins none lawful = record { begun = none; legal = lawful; floor = refl; limits = refl; ties = refl; robots = refl; later = omega arith; opening = λ same. refl }
 
   pub since-same : (w v : World A) → v.floor ≡ w.floor → v.limits ≡ w.limits → v.ties ≡ w.ties → v.number ≡ w.number → v.history.opening ≡ w.history.opening → IsSince began w → IsSince began v
   since-same w v floor limits ties number opening h = record {
@@ -39,6 +40,7 @@ module _ {A : Type 0} (began : World A) where
     floor = floor ∙ h.floor;
     limits = limits ∙ h.limits;
     ties = ties ∙ h.ties;
+    robots = ap (λ (o : Opening A). length o.robots) opening ∙ h.robots;
     later = omega (arith, h.later, number);
     opening = λ same. opening ∙ h.opening (sym number ∙ same);
   }
@@ -50,6 +52,7 @@ module _ {A : Type 0} (began : World A) where
     floor = h.floor;
     limits = h.limits;
     ties = h.ties;
+    robots = length-map (range_with_len 0 (robots w.history)) (robot_after w.history) ∙ length-range_with_len 0 (robots w.history) ∙ h.robots;
     later = omega (arith, h.later);
     opening = λ same. absurd (omega (arith, h.later, same));
   }

@@ -4,7 +4,7 @@ use Rattle.std.specs.List.{flat_map}
 use Rattle.fleet_grid.specs.Floor.{Floor}
 use Rattle.fleet_book.specs.declared.notice.Notice.{Notice}
 use Rattle.fleet_book.specs.declared.order.Order.{Order}
-use Rattle.fleet_history.specs.History.{History, clients, client_at, taken_count, accepted_count}
+use Rattle.fleet_history.specs.History.{History, robots, clients, client_at, taken_count, accepted_count}
 use Rattle.fleet_history.specs.Laws.{orders}
 use Rattle.fleet_history.specs.Legal.{IsLegal}
 use Rattle.fleet_history.specs.Notices.{notices, noticed_count, seq_of}
@@ -25,6 +25,7 @@ pub record IsSince {A : Type 0} (began w : World A) : Type 0 where
   pub floor : w.floor ≡ began.floor
   pub limits : w.limits ≡ began.limits
   pub ties : w.ties ≡ began.ties
+  pub robots : robots w.history ≡ robots began.history
   pub later : began.number ≤ w.number
   pub opening : w.number ≡ began.number → w.history.opening ≡ began.history.opening
 

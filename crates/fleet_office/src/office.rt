@@ -2,7 +2,7 @@
 
 ghost use Rattle.std.specs.Prelude.{◌≡◌, ◌+◌, ◌<◌, ◌≤◌, ◌^◌, ◌↔◌, length, Err, IfOk, IfErr, IfSome, OnOk, OnErr};
 ghost use Rattle.std.specs.List.{sum_by};
-ghost use Rattle.fleet_history.specs.History.{history_of, clock};
+ghost use Rattle.fleet_history.specs.History.{history_of, clock, robots};
 ghost use Rattle.fleet_history.specs.Legal.{IsLegal};
 ghost use Rattle.fleet_history.specs.Laws.{EachTick};
 ghost use Rattle.fleet_planner.specs.Planned.{IsPlanned};
@@ -17,7 +17,6 @@ ghost use Rattle.fleet_office.specs.Chapters.{IsChapterOf};
 ghost use Rattle.fleet_office.specs.Concluded.{AreTold, HasAll, IsLast, IsUnconcluded};
 ghost use Rattle.fleet_office.specs.Shown.{Shows};
 ghost use Rattle.fleet_office.specs.Shut.{AnswersShut};
-ghost use Rattle.fleet_core.specs.Core.{World};
 
 use crate::conclude::{ConcludeFault, Final, Home};
 use crate::desk::Desk;
@@ -124,7 +123,8 @@ impl<N: OfficeName<A>, A: Allocator + Copy> Office<N, A> {
     /// Refused in this order: `NoRobot`, `Already`, `ChapterFull`, `NoMemory`. Nothing has changed then.
     pub fn shut<R: Wait>(&self, rt: &R, robot: u32) -> Result<Option<u32>, ShutFault>
         requires { robot < 2 ^ 32 }
-        ensures { (w : World A) × AnswersShut w robot result }
+        ensures answer { (h : HallView A) × IsLawful N.rings N.start h.world h.ends h.total × AnswersShut h.world robot result }
+        ensures no_robot { (result ≡ Err ShutFault.NoRobot) ↔ (robots N.start.history ≤ robot) }
     {
         let mut held = self.hall.lock(rt);
         let hall = &mut *held;
@@ -156,7 +156,7 @@ impl<N: OfficeName<A>, A: Allocator + Copy> Office<N, A> {
     ) -> Result<Look<A>, AllocError>
         requires { 0 ≤ ticker.now.count }
         ensures tick { IfOk result (λ look. ticker.now.count ≤ look.tick) }
-        ensures shown { IfOk result (λ look. (w : World A) × Shows w look) }
+        ensures shown { IfOk result (λ look. (h : HallView A) × IsLawful N.rings N.start h.world h.ends h.total × Shows h.world look) }
     {
         let hall = self.hall.lock(rt);
         hall.state.recall_laws();

@@ -1,7 +1,7 @@
 //! The errands of a client of an office that are accepted, and neither done nor withdrawn.
 
 ghost use Rattle.std.specs.Prelude.{◌<◌, ◌^◌, IfOk};
-ghost use Rattle.fleet_core.specs.Core.{World};
+ghost use Rattle.fleet_office.specs.Hall.{HallView, IsLawful};
 ghost use Rattle.fleet_office.specs.Shown.{ShowsOpen};
 
 use crate::hall_state::HallState;
@@ -31,9 +31,10 @@ impl<N: OfficeName<A>, A: Allocator + Copy> Office<N, A> {
         client: u32,
     ) -> Result<Vec<OpenErrand, A>, AllocError>
         requires { client < 2 ^ 32 }
-        ensures { IfOk result (λ found. (w : World A) × ShowsOpen w client found.items) }
+        ensures { IfOk result (λ found. (h : HallView A) × IsLawful N.rings N.start h.world h.ends h.total × ShowsOpen h.world client found.items) }
     {
         let hall = self.hall.lock(rt);
+        hall.state.recall_laws();
         hall.state.open_errands(rt.alloc(), client)
     }
 }

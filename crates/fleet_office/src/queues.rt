@@ -1,7 +1,7 @@
 //! How long an office's queues are.
 
 ghost use Rattle.std.specs.Prelude.{◌≤◌};
-ghost use Rattle.fleet_core.specs.Core.{World};
+ghost use Rattle.fleet_office.specs.Hall.{HallView, IsLawful};
 ghost use Rattle.fleet_office.specs.Shown.{ShowsQueues};
 
 use crate::hall_state::HallState;
@@ -30,9 +30,10 @@ impl<N: OfficeName<A>, A: Allocator + Copy> Office<N, A> {
     /// Returns how long the robots' queues are, as it is when the lock is held.
     pub fn queues<R: Wait>(&self, rt: &R) -> QueueReport
         requires { 0 ≤ 1 }
-        ensures { (w : World A) × ShowsQueues w result }
+        ensures { (h : HallView A) × IsLawful N.rings N.start h.world h.ends h.total × ShowsQueues h.world result }
     {
         let hall = self.hall.lock(rt);
+        hall.state.recall_laws();
         hall.state.queues()
     }
 

@@ -1,7 +1,7 @@
 //! How long an office's robots wait.
 
 ghost use Rattle.std.specs.Prelude.{◌≤◌};
-ghost use Rattle.fleet_core.specs.Core.{World};
+ghost use Rattle.fleet_office.specs.Hall.{HallView, IsLawful};
 ghost use Rattle.fleet_office.specs.Shown.{ShowsWaits};
 
 use crate::hall_state::HallState;
@@ -37,9 +37,10 @@ impl<N: OfficeName<A>, A: Allocator + Copy> Office<N, A> {
     /// Returns how long the robots wait, as it is when the lock is held.
     pub fn waits<R: Wait>(&self, rt: &R) -> WaitReport
         requires { 0 ≤ 1 }
-        ensures { (w : World A) × ShowsWaits w result }
+        ensures { (h : HallView A) × IsLawful N.rings N.start h.world h.ends h.total × ShowsWaits h.world result }
     {
         let hall = self.hall.lock(rt);
+        hall.state.recall_laws();
         hall.state.waits()
     }
 }

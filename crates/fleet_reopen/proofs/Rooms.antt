@@ -150,8 +150,22 @@ module _ {A : Type 0} {m : Floor} {h : History A} {s : State A} (k : IsStateOf m
       (λ d at. away d (subst (λ (cells : List ℕ). IsDistance (IsNeighbour m) (slice_index cells e) goal d) (sym (cells-of k)) at)) less
       (subst (λ (ws : List (Option ℕ)). HaveRoom ws far low) (waits-of k) room)
 
-  pub state-full : (far low : ℕ) → low ≤ reach m → (HaveRoom s.waits far low → ⊥) → HasNoRoom m h
-  state-full far low less full = record { far = far; apart = low; within = less; full = λ room. full (subst (λ (ws : List (Option ℕ)). HaveRoom ws far low) (sym (waits-of k)) room) }
+  pub state-full : (e goal far low : ℕ) → IsEldest s.waits e → first_goal s.queues e ≡ Some goal → ((d : ℕ) → IsDistance (IsNeighbour m) (slice_index s.cells e) goal d → d ≡ far) →
+      ((cell d : ℕ) → IsDistance (IsNeighbour m) cell goal d → d ≤ low) → low ≤ reach m → (HaveRoom s.waits far low → ⊥) → HasNoRoom m h
+  state-full e goal far low eldest aims away wide less full =
+      let known : e < length s.queues = omega (arith, eldest.known, wait-count k, queue-count k) in
+      record {
+        eldest = e;
+        goal = goal;
+        far = far;
+        apart = low;
+        first = subst (λ (ws : List (Option ℕ)). IsEldest ws e) (waits-of k) eldest;
+        aims = ap (λ (gs : List (Option ℕ)). goal_of gs e) (sym (first-goals k)) ∙ item_of (first_goal s.queues) (length s.queues) e known ∙ aims;
+        away = λ d at. away d (subst (λ (cells : List ℕ). IsDistance (IsNeighbour m) (slice_index cells e) goal d) (sym (cells-of k)) at);
+        wide = wide;
+        within = less;
+        full = λ room. full (subst (λ (ws : List (Option ℕ)). HaveRoom ws far low) (sym (waits-of k)) room);
+      }
 
   -- a robot that waits has a front
   pub eldest-front : (e : ℕ) → IsEldest s.waits e → front h e ≡ None → ⊥
