@@ -42,9 +42,9 @@ farthest-goes m from n edges more field o is at before within grows covers = rec
   wide = λ cell d below far. elim (cases_lt cell n) [
     | inl less ↦ (let old = before.wide cell d less far in omega (arith, old, grows))
     | inr past ↦ (
-      let here : cell ≡ n = omega (arith, below, past) in
-      let there = subst (λ (c : ℕ). IsDistance (IsNeighbour m) c from d) here far in
-      shows d o (field-shows m from n d field o is at there) covers)
+        let here : cell ≡ n = omega (arith, below, past) in
+        let there = subst (λ (c : ℕ). IsDistance (IsNeighbour m) c from d) here far in
+        shows d o (field-shows m from n d field o is at there) covers)
   ];
 }
   where
