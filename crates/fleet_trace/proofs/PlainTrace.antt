@@ -41,7 +41,7 @@ robot_plain : {A : Type 0} (x : RobotState A) → RobotFits x → IsPlain (robot
 robot_plain x h =
     (wide x.cell h.cell, (tt, (wait_plain x.wait h.wait, (list_plain errand_data ErrandFits errand_plain x.errands h.errands, (law_plain x.arrival_law h.arrival_law, (law_plain x.farewell_law h.farewell_law, tt))))))
 
-opening_plain : {A : Type 0} (o : Opening A) → OpeningFits o → IsPlain (opening_data o)
+pub opening_plain : {A : Type 0} (o : Opening A) → OpeningFits o → IsPlain (opening_data o)
 opening_plain o h =
     ((list_plain client_data ClientFits client_plain o.clients h.clients, (h.life, (wide o.queue h.queue, (list_plain robot_data RobotFits robot_plain o.robots h.robots, (h.tick, tt))))), refl)
 
@@ -65,7 +65,7 @@ bye_plain b h = (wide b.robot h.robot, (wide b.stamp h.stamp, tt))
 number_plain : (n : ℕ) → Fits32 n → IsPlain (counted n)
 number_plain n h = wide n h
 
-entry_plain : {A : Type 0} (e : Entry A) → EntryFits e → IsPlain (entry_data e)
+pub entry_plain : {A : Type 0} (e : Entry A) → EntryFits e → IsPlain (entry_data e)
 entry_plain (Take client o v) h = (tt, (wide client h.0, (order_plain o h.1, (verdict_plain v h.2, tt))))
 entry_plain (Tick to arrived farewells) h =
     (tt, (list_plain counted Fits32 number_plain to h.0, (list_plain arrival_data ArrivalFits arrival_plain arrived h.1, (list_plain bye_data ByeFits bye_plain farewells h.2, tt))))
@@ -85,7 +85,7 @@ wait_flat (Some w) = omega arith
 robot_shallow : {A : Type 0} (x : RobotState A) → depth (robot_data x) ≤ 3
 robot_shallow x = omega (arith, wait_flat x.wait, list_shallow errand_data 1 (λ e. omega arith) x.errands)
 
-opening_shallow : {A : Type 0} (o : Opening A) → depth (opening_data o) ≤ 5
+pub opening_shallow : {A : Type 0} (o : Opening A) → depth (opening_data o) ≤ 5
 opening_shallow o = omega (arith, list_shallow client_data 1 (λ s. omega arith) o.clients, list_shallow robot_data 3 robot_shallow o.robots)
 
 order_shallow : (x : Order) → depth (order_data x) ≤ 1
@@ -99,7 +99,7 @@ verdict_shallow verdict.Closed = omega arith
 verdict_shallow verdict.Withdrawn = omega arith
 verdict_shallow _ = omega arith
 
-entry_shallow : {A : Type 0} (e : Entry A) → depth (entry_data e) ≤ 3
+pub entry_shallow : {A : Type 0} (e : Entry A) → depth (entry_data e) ≤ 3
 entry_shallow (Take client o v) = omega (arith, order_shallow o, verdict_shallow v)
 entry_shallow (Tick to arrived farewells) =
     omega (arith, list_shallow counted 0 (λ n. omega arith) to, list_shallow arrival_data 1 (λ a. omega arith) arrived, list_shallow bye_data 1 (λ b. omega arith) farewells)

@@ -26,7 +26,7 @@ use Rattle.fleet_trace.proofs.Lists.{list_again}
 use Rattle.fleet_trace.proofs.PlainTrace.{trace_plain, trace_shallow}
 use Rattle.fleet_trace.proofs.TextLaws.{reads_back}
 
-number_again : (n : ℕ) → Fits32 n → count_in (counted n) ≡ Some n
+pub number_again : (n : ℕ) → Fits32 n → count_in (counted n) ≡ Some n
 number_again n h = rw (lt-ltb n (2 ^ 32) h) refl
 
 client_again : (s : ClientState) → ClientFits s → client_in (client_data s) ≡ Some s
@@ -46,7 +46,7 @@ robot_again : {A : Type 0} (x : RobotState A) → RobotFits x → robot_in (robo
 robot_again x h =
     rw (number_again x.cell h.cell, wait_again x.wait, list_again errand_data ErrandFits errand_in errand_again x.errands h.errands, law_again x.arrival_law h.arrival_law, law_again x.farewell_law h.farewell_law) refl
 
-opening_again : {A : Type 0} (o : Opening A) → OpeningFits o → opening_in (opening_data o) ≡ Some o
+pub opening_again : {A : Type 0} (o : Opening A) → OpeningFits o → opening_in (opening_data o) ≡ Some o
 opening_again o h =
     rw (number_again o.queue h.queue, list_again client_data ClientFits client_in client_again o.clients h.clients, list_again robot_data RobotFits robot_in robot_again o.robots h.robots) refl
 
@@ -67,7 +67,7 @@ arrival_again a h = rw (number_again a.robot h.robot, number_again a.client h.cl
 bye_again : (b : Bye) → ByeFits b → bye_in (bye_data b) ≡ Some b
 bye_again b h = rw (number_again b.robot h.robot, number_again b.stamp h.stamp) refl
 
-entry_again : {A : Type 0} (e : Entry A) → EntryFits e → entry_in Second (entry_data e) ≡ Some e
+pub entry_again : {A : Type 0} (e : Entry A) → EntryFits e → entry_in Second (entry_data e) ≡ Some e
 entry_again (Take client o v) h = rw (number_again client h.0, order_again o h.1, verdict_again v) refl
 entry_again (Tick to arrived farewells) h =
     rw (list_again counted Fits32 count_in number_again to h.0, list_again arrival_data ArrivalFits arrival_in arrival_again arrived h.1, list_again bye_data ByeFits bye_in bye_again farewells h.2) refl

@@ -11,10 +11,12 @@ mod texts;
 mod values;
 
 use fleet_history::Chapter;
-use opening::opening_value;
+pub(crate) use opening::opening_value;
 use serde_json::Value;
 use std::alloc::{AllocError, Allocator, Global};
-use texts::{push_items, push_value};
+use texts::push_items;
+pub(crate) use texts::push_value;
+pub(crate) use values::WriteValue;
 
 /// The text of a chapter, in version 2 of the form of traces. The error is out of memory.
 pub fn write_trace<A: Allocator + Copy>(
