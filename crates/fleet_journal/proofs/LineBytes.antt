@@ -1,17 +1,15 @@
 -- Texts of ASCII bytes without a line feed.
 use Rattle.std.proofs.Common.{◌≡◌, ◌≢◌, ℕ, zero, suc, ◌+◌, ◌%◌, ◌^◌, ◌<◌, ◌≤◌, Bool, true, false, cond, not, ◌&&◌, ltb, eqb, List, [], ◌∷◌, ◌++◌, get_or, refl, sym, ap, subst, ◌∙◌, ⊎_elim, inl, inr, arith}
 use Rattle.std.specs.Prelude.{◌==◌, nat_lt, decimal}
-use Rattle.std.specs.List.{All}
 use Rattle.std.specs.Str.{IsAscii, IsUtf8}
 use Rattle.std.proofs.lemmas.Bool.{lt-ltb, ltb-true}
 use Rattle.std.proofs.lemmas.Fmt.{decimal_by_steps}
-use Rattle.std.proofs.lemmas.List.Elements.{All-from_recursion}
 use Rattle.std.proofs.lemmas.Str.{IsUtf8-from_ascii}
 use Rattle.std.specs.List.{AllByRecursion}
 use Rattle.fleet_map.specs.Text.{is_line_feed}
 
 -- whether the byte is ASCII and no line feed
-pub is_line_byte : ℕ → Bool
+abbrev pub is_line_byte : ℕ → Bool
 is_line_byte b = nat_lt b 128 && not (b == 10)
 
 abbrev pub are_line_bytes : List ℕ → Bool
@@ -34,16 +32,16 @@ text-then (b ∷ xs) ys one more =
     byte-then b (xs ++ ys) here.0 (text-then xs ys here.1 more)
 
 digit-byte : (d : ℕ) → d < 10 → is_line_byte (48 + d) ≡ true
-digit-byte 0 l = refl
-digit-byte 1 l = refl
-digit-byte 2 l = refl
-digit-byte 3 l = refl
-digit-byte 4 l = refl
-digit-byte 5 l = refl
-digit-byte 6 l = refl
-digit-byte 7 l = refl
-digit-byte 8 l = refl
-digit-byte 9 l = refl
+digit-byte zero l = refl
+digit-byte (suc zero) l = refl
+digit-byte (suc (suc zero)) l = refl
+digit-byte (suc (suc (suc zero))) l = refl
+digit-byte (suc (suc (suc (suc zero)))) l = refl
+digit-byte (suc (suc (suc (suc (suc zero))))) l = refl
+digit-byte (suc (suc (suc (suc (suc (suc zero)))))) l = refl
+digit-byte (suc (suc (suc (suc (suc (suc (suc zero))))))) l = refl
+digit-byte (suc (suc (suc (suc (suc (suc (suc (suc zero)))))))) l = refl
+digit-byte (suc (suc (suc (suc (suc (suc (suc (suc (suc zero))))))))) l = refl
 digit-byte (suc (suc (suc (suc (suc (suc (suc (suc (suc (suc n)))))))))) l = absurd (omega (arith, l))
 
 -- digits
@@ -64,12 +62,9 @@ byte-no_feed b e = flip (b == 10) (both-true (nat_lt b 128) (not (b == 10)) e).1
 byte-ascii : (b : ℕ) → is_line_byte b ≡ true → b < 128
 byte-ascii b e = ltb-true b 128 (both-true (nat_lt b 128) (not (b == 10)) e).0
 
-no_feeds : (bs : List ℕ) → are_line_bytes bs ≡ true → AllByRecursion (λ b. is_line_feed b ≡ false) bs
-no_feeds [] e = tt
-no_feeds (b ∷ bs) e = let h = both-true (is_line_byte b) (are_line_bytes bs) e in (byte-no_feed b h.0, no_feeds bs h.1)
-
-pub line-no_feed : (bs : List ℕ) → are_line_bytes bs ≡ true → All (λ b. is_line_feed b ≡ false) bs
-line-no_feed bs e = All-from_recursion (λ b. is_line_feed b ≡ false) bs (no_feeds bs e)
+pub line-no_feed : (bs : List ℕ) → are_line_bytes bs ≡ true → AllByRecursion (λ b. is_line_feed b ≡ false) bs
+line-no_feed [] e = tt
+line-no_feed (b ∷ bs) e = let h = both-true (is_line_byte b) (are_line_bytes bs) e in (byte-no_feed b h.0, line-no_feed bs h.1)
 
 line-ascii : (bs : List ℕ) → are_line_bytes bs ≡ true → IsAscii bs
 line-ascii [] e i = omega arith

@@ -3,7 +3,7 @@ use Rattle.std.proofs.Common.{◌≡◌, ℕ, ◌^◌, ◌<◌, Bool, true, fals
 use Rattle.std.specs.Prelude.{⊤}
 use Rattle.std.specs.List.{AllByRecursion}
 use Rattle.json.specs.Print.{escape_byte, quoted}
-use Rattle.serde_json.specs.Data.{Data, boolean, array, object, Items, no_items, item, Members, no_members, member}
+use Rattle.serde_json.specs.Data.{Data, unsigned, negative, float, null, boolean, number, string, array, object, Items, no_items, item, Members, no_members, member}
 use Rattle.serde_json.specs.View.{items_of}
 use Rattle.serde_json.specs.Written.{comma_if, compact_text, items_text, members_text}
 use Rattle.fleet_queue.specs.declared.errand.Errand.{Errand}
@@ -24,112 +24,117 @@ use Rattle.fleet_trace.specs.Text.{counted, listed, client_data, errand_data, la
 use Rattle.fleet_journal.specs.Text.{head_data}
 use Rattle.fleet_journal.proofs.LineBytes.{are_line_bytes, byte-then, text-then, decimal-line}
 
--- the text of a value has such bytes
-abbrev IsLine : Data → Type 0
-IsLine d = are_line_bytes (compact_text d) ≡ true
+abbrev mutual
+  -- each number is a count, and each word and key is quoted by such bytes
+  IsLine : Data → Type 0
+  IsLine null = ⊤
+  IsLine (boolean b) = ⊤
+  IsLine (number (unsigned n)) = n < 2 ^ 64
+  IsLine (number (negative z)) = ⊥
+  IsLine (number (float x)) = ⊥
+  IsLine (string s) = are_line_bytes (quoted s) ≡ true
+  IsLine (array ds) = ItemsAreLine ds
+  IsLine (object ms) = MembersAreLine ms
 
-abbrev ItemsAreLine : Items → Type 0
-ItemsAreLine no_items = ⊤
-ItemsAreLine (item d ds) = IsLine d × ItemsAreLine ds
+  ItemsAreLine : Items → Type 0
+  ItemsAreLine no_items = ⊤
+  ItemsAreLine (item d ds) = IsLine d × ItemsAreLine ds
 
-abbrev MembersAreLine : Members → Type 0
-MembersAreLine no_members = ⊤
-MembersAreLine (member k d ms) = (are_line_bytes (quoted k) ≡ true) × IsLine d × MembersAreLine ms
+  MembersAreLine : Members → Type 0
+  MembersAreLine no_members = ⊤
+  MembersAreLine (member k d ms) = (are_line_bytes (quoted k) ≡ true) × IsLine d × MembersAreLine ms
 
 comma-line : (later : Bool) → are_line_bytes (comma_if later) ≡ true
 comma-line true = refl
 comma-line false = refl
 
-items-line : (later : Bool) (ds : Items) → ItemsAreLine ds → are_line_bytes (items_text later ds) ≡ true
-items-line later no_items h = refl
-items-line later (item d ds) h =
-    text-then (comma_if later) (compact_text d ++ items_text true ds) (comma-line later) (text-then (compact_text d) (items_text true ds) h.0 (items-line true ds h.1))
+mutual
+  text-line : (d : Data) → IsLine d → are_line_bytes (compact_text d) ≡ true
+  text-line null h = refl
+  text-line (boolean true) h = refl
+  text-line (boolean false) h = refl
+  text-line (number (unsigned n)) h = decimal-line n h
+  text-line (number (negative z)) h = absurd h
+  text-line (number (float x)) h = absurd h
+  text-line (string s) h = h
+  text-line (array ds) h = byte-then 91 (items_text false ds) refl (items-line false ds h)
+  text-line (object ms) h = byte-then 123 (members_text false ms) refl (members-line false ms h)
 
-members-line : (later : Bool) (ms : Members) → MembersAreLine ms → are_line_bytes (members_text later ms) ≡ true
-members-line later no_members h = refl
-members-line later (member k d ms) h =
-    text-then (comma_if later) (quoted k ++ 58 ∷ (compact_text d ++ members_text true ms)) (comma-line later)
-    (text-then (quoted k) (58 ∷ (compact_text d ++ members_text true ms)) h.0
-    (byte-then 58 (compact_text d ++ members_text true ms) refl (text-then (compact_text d) (members_text true ms) h.1 (members-line true ms h.2))))
+  items-line : (later : Bool) (ds : Items) → ItemsAreLine ds → are_line_bytes (items_text later ds) ≡ true
+  items-line later no_items h = refl
+  items-line later (item d ds) h =
+      text-then (comma_if later) (compact_text d ++ items_text true ds) (comma-line later) (text-then (compact_text d) (items_text true ds) (text-line d h.0) (items-line true ds h.1))
 
-array-line : (ds : Items) → ItemsAreLine ds → IsLine (array ds)
-array-line ds h = byte-then 91 (items_text false ds) refl (items-line false ds h)
+  members-line : (later : Bool) (ms : Members) → MembersAreLine ms → are_line_bytes (members_text later ms) ≡ true
+  members-line later no_members h = refl
+  members-line later (member k d ms) h =
+      text-then (comma_if later) (quoted k ++ 58 ∷ (compact_text d ++ members_text true ms)) (comma-line later)
+      (text-then (quoted k) (58 ∷ (compact_text d ++ members_text true ms)) h.0
+      (byte-then 58 (compact_text d ++ members_text true ms) refl (text-then (compact_text d) (members_text true ms) (text-line d h.1) (members-line true ms h.2))))
 
-object-line : (ms : Members) → MembersAreLine ms → IsLine (object ms)
-object-line ms h = byte-then 123 (members_text false ms) refl (members-line false ms h)
+list : {X : Type 0} (data_of : X → Data) (Fits : X → Type 0) → ((x : X) → Fits x → IsLine (data_of x)) → (xs : List X) → AllByRecursion Fits xs → ItemsAreLine (items_of (map data_of xs))
+list data_of Fits each [] h = tt
+list data_of Fits each (x ∷ xs) h = (each x h.0, list data_of Fits each xs h.1)
 
-items-of : {X : Type 0} (data_of : X → Data) (Fits : X → Type 0) → ((x : X) → Fits x → IsLine (data_of x)) → (xs : List X) → AllByRecursion Fits xs → ItemsAreLine (items_of (map data_of xs))
-items-of data_of Fits each [] h = tt
-items-of data_of Fits each (x ∷ xs) h = (each x h.0, items-of data_of Fits each xs h.1)
-
-list : {X : Type 0} (data_of : X → Data) (Fits : X → Type 0) → ((x : X) → Fits x → IsLine (data_of x)) → (xs : List X) → AllByRecursion Fits xs → IsLine (listed (map data_of xs))
-list data_of Fits each xs h = array-line (items_of (map data_of xs)) (items-of data_of Fits each xs h)
-
--- ---- numbers, flags, words
-
-long : (n : ℕ) → n < 2 ^ 64 → IsLine (counted n)
-long n h = decimal-line n h
-
-short : (n : ℕ) → Fits32 n → IsLine (counted n)
-short n h = decimal-line n (omega (arith, h))
-
-flag : (b : Bool) → IsLine (boolean b)
-flag true = refl
-flag false = refl
+short : (n : ℕ) → Fits32 n → n < 2 ^ 64
+short n h = omega (arith, h)
 
 -- ---- the opening
 
 client : (s : ClientState) → ClientFits s → IsLine (client_data s)
-client s h = array-line _ (long s.taken h.taken, (long s.accepted h.accepted, (long s.noticed h.noticed, (flag s.closed, tt))))
+client s h = (h.taken, (h.accepted, (h.noticed, (tt, tt))))
 
 errand : (e : Errand) → ErrandFits e → IsLine (errand_data e)
-errand e h = array-line _ (short e.client h.client, (long e.number h.number, (short e.cell h.cell, tt)))
+errand e h = (short e.client h.client, (h.number, (short e.cell h.cell, tt)))
 
 law : (law : StampLaw) → LawFits law → IsLine (law_data law)
-law x h = array-line _ (short x.low h.low, (short x.high h.high, tt))
+law x h = (short x.low h.low, (short x.high h.high, tt))
 
 waiting : (w : Option ℕ) → WaitFits w → IsLine (wait_data w)
-waiting None h = refl
-waiting (Some w) h = long w h
+waiting None h = tt
+waiting (Some w) h = h
 
 robot : {A : Type 0} (x : RobotState A) → RobotFits x → IsLine (robot_data x)
-robot x h = array-line _ (short x.cell h.cell, (flag x.shut, (waiting x.wait h.wait, (list errand_data ErrandFits errand x.errands h.errands,
+robot x h = (short x.cell h.cell, (tt, (waiting x.wait h.wait, (list errand_data ErrandFits errand x.errands h.errands,
     (law x.arrival_law h.arrival_law, (law x.farewell_law h.farewell_law, tt))))))
 
 opening : {A : Type 0} (o : Opening A) → OpeningFits o → IsLine (opening_data o)
 unfolding escape_byte
-opening o h = object-line _ (refl, list client_data ClientFits client o.clients h.clients, (refl, long o.life h.life,
-    (refl, short o.queue h.queue, (refl, list robot_data RobotFits robot o.robots h.robots, (refl, long o.tick h.tick, tt)))))
+opening o h = (refl, list client_data ClientFits client o.clients h.clients, (refl, h.life,
+    (refl, short o.queue h.queue, (refl, list robot_data RobotFits robot o.robots h.robots, (refl, h.tick, tt)))))
 
 pub head-line : {A : Type 0} (n : ℕ) (o : Opening A) → Fits32 n → OpeningFits o → are_line_bytes (compact_text (head_data n o)) ≡ true
 unfolding escape_byte
-head-line n o small h = object-line _ (refl, short n small, (refl, opening o h, (refl, long 2 (omega arith), tt)))
+head-line n o small h = text-line (head_data n o) (refl, short n small, (refl, opening o h, (refl, omega arith, tt)))
 
 -- ---- entries
 
 order : (x : Order) → OrderFits x → IsLine (order_data x)
 unfolding escape_byte
-order (Go robot cell) h = array-line _ (refl, (short robot h.0, (short cell h.1, tt)))
-order Close h = array-line _ (refl, tt)
-order (Withdraw errand) h = array-line _ (refl, (long errand h, tt))
+order (Go robot cell) h = (refl, (short robot h.0, (short cell h.1, tt)))
+order Close h = (refl, tt)
+order (Withdraw errand) h = (refl, (h, tt))
 
 answer : (v : Verdict) → VerdictFits v → IsLine (verdict_data v)
 unfolding escape_byte
-answer (verdict.Accepted errand) h = array-line _ (refl, (long errand h, tt))
-answer verdict.Closed h = array-line _ (refl, tt)
-answer verdict.Withdrawn h = array-line _ (refl, tt)
-answer _ h = array-line _ (refl, (long _ (omega arith), tt))
+answer (verdict.Accepted errand) h = (refl, (h, tt))
+answer verdict.Closed h = (refl, tt)
+answer verdict.Withdrawn h = (refl, tt)
+answer _ h = (refl, (omega arith, tt))
 
 arrival : (a : Arrival) → ArrivalFits a → IsLine (arrival_data a)
-arrival a h = array-line _ (short a.robot h.robot, (short a.client h.client, (long a.number h.number, (short a.stamp h.stamp, tt))))
+arrival a h = (short a.robot h.robot, (short a.client h.client, (h.number, (short a.stamp h.stamp, tt))))
 
 bye : (b : Bye) → ByeFits b → IsLine (bye_data b)
-bye b h = array-line _ (short b.robot h.robot, (short b.stamp h.stamp, tt))
+bye b h = (short b.robot h.robot, (short b.stamp h.stamp, tt))
+
+entry : {A : Type 0} (e : Entry A) → EntryFits e → IsLine (entry_data e)
+unfolding escape_byte
+entry (Take client o v) h = (refl, (short client h.0, (order o h.1, (answer v h.2, tt))))
+entry (Tick to arrived farewells) h =
+    (refl, (list counted Fits32 short to h.0, (list arrival_data ArrivalFits arrival arrived h.1, (list bye_data ByeFits bye farewells h.2, tt))))
+entry (Shut robot None) h = (refl, (short robot h.0, tt))
+entry (Shut robot (Some stamp)) h = (refl, (short robot h.0, (short stamp h.1, tt)))
 
 pub entry-line : {A : Type 0} (e : Entry A) → EntryFits e → are_line_bytes (compact_text (entry_data e)) ≡ true
-unfolding escape_byte
-entry-line (Take client o v) h = array-line _ (refl, (short client h.0, (order o h.1, (answer v h.2, tt))))
-entry-line (Tick to arrived farewells) h =
-    array-line _ (refl, (list counted Fits32 short to h.0, (list arrival_data ArrivalFits arrival arrived h.1, (list bye_data ByeFits bye farewells h.2, tt))))
-entry-line (Shut robot None) h = array-line _ (refl, (short robot h.0, tt))
-entry-line (Shut robot (Some stamp)) h = array-line _ (refl, (short robot h.0, (short stamp h.1, tt)))
+entry-line e h = text-line (entry_data e) (entry e h)

@@ -13,10 +13,9 @@ use Rattle.fleet_journal.specs.Lines.{whole_lines}
 use Rattle.fleet_journal.specs.declared.fault.JournalFault.{JournalFault}
 use Rattle.fleet_journal.specs.declared.fault.JournalFault.TheVariants as fault
 
--- what a first line opens
-pub record Head (A : Type 0) : Type 0 where
-  pub number : ℕ
-  pub opening : Opening A
+-- what a first line opens: the number of a chapter, and its opening
+abbrev pub Head : Type 0 → Type 0
+Head A = ℕ × Opening A
 
 abbrev pub is_second : Option ℕ → Bool
 is_second None = false
@@ -25,7 +24,7 @@ is_second (Some n) = n == 2
 -- what a value with the second version's number tells; other members than these three say nothing
 abbrev pub head_in : {A : Type 0} → Data → Option (Head A)
 head_in d = if is_second (option_and_then count_in (get (codes "version") d)) then
-    option_and_then (λ n. option_map (λ o. record { number = n; opening = o }) (option_and_then opening_in (get (codes "opening") d)))
+    option_and_then (λ n. option_map (λ o. (n, o)) (option_and_then opening_in (get (codes "opening") d)))
     (option_and_then count_in (get (codes "chapter") d))
     else None
 
@@ -46,7 +45,7 @@ pub record IsJournal {A : Type 0} (bytes : List ℕ) (t : Trace A) : Type 0 wher
   pub first : List ℕ
   pub others : List (List ℕ)
   pub lines : whole_lines bytes ≡ first ∷ others
-  pub opens : IsHeadLine first (record { number = t.number; opening = t.history.opening })
+  pub opens : IsHeadLine first (t.number, t.history.opening)
   pub entries : AreEntryLines others t.history.entries
 
 -- after this many lines that tell entries stands one that tells none

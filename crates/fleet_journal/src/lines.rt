@@ -13,7 +13,7 @@ fn feed_in(bytes: &[u8]) -> Option<usize>
 }
 
 /// The first whole line without its line feed, and what follows it; `None` if there is no line feed.
-#[tactic(auto, using(crate::proofs::WholeLines::first_is, crate::proofs::WholeLines::none_is))]
+#[tactic(auto, using(crate::proofs::WholeLines::first_is, crate::proofs::WholeLines::joined_is, crate::proofs::WholeLines::none_is))]
 pub(crate) fn first_whole_line(bytes: &[u8]) -> Option<(&[u8], &[u8])>
     ensures cut { MatchOption result (whole_lines bytes.now ≡ []) (λ x. whole_lines bytes.now ≡ x.0.now ∷ whole_lines x.1.now) }
     ensures joined { IfSome result (λ x. bytes.now ≡ x.0.now ++ 10 ∷ x.1.now) }

@@ -7,7 +7,7 @@ ghost use Rattle.fleet_journal.specs.Journal.{AreEntryLines, AreFaulty, IsJourna
 
 use crate::fault::JournalFault;
 use crate::lines::first_whole_line;
-use crate::told::{FirstLine, entry_in, head_line_in};
+use crate::told::{entry_in, head_line_in};
 use fleet_history::{Chapter, Entry};
 use std::alloc::Global;
 
@@ -50,14 +50,18 @@ pub fn read_journal(alloc: Global, bytes: &[u8]) -> Result<Journal, JournalFault
     let Some((first, others)) = first_whole_line(bytes) else {
         return Err(JournalFault::Empty);
     };
-    let Some(FirstLine { number, opening }) = head_line_in(alloc, first)? else {
+    let Some((number, opening)) = head_line_in(alloc, first)? else {
         return Err(JournalFault::Opening);
     };
-    let (entries, cut) = entries_in(alloc, others)?;
-    let chapter = Chapter {
-        number,
-        opening,
-        entries,
-    };
-    Ok(Journal { chapter, cut })
+    match entries_in(alloc, others) {
+        Ok((entries, cut)) => {
+            let chapter = Chapter {
+                number,
+                opening,
+                entries,
+            };
+            Ok(Journal { chapter, cut })
+        }
+        Err(fault) => Err(fault),
+    }
 }

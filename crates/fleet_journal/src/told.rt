@@ -14,13 +14,6 @@ use fleet_trace::{TraceFault, entry_told, opening_told};
 use serde_json::Value;
 use std::alloc::{AllocError, Global};
 
-/// What a first line opens.
-#[derive(Drop)]
-pub(crate) struct FirstLine {
-    pub(crate) number: u32,
-    pub(crate) opening: Opening,
-}
-
 /// The value that a line is the text of; none if it is the text of none.
 fn value_in(alloc: Global, line: &[u8]) -> Result<Option<Value>, AllocError>
     ensures some { IfOk result (λ v. IfSome v (λ v. IsJson line.now (view v))) }
@@ -81,9 +74,9 @@ fn is_second(version: Option<u32>) -> bool
     }
 }
 
-/// What a value opens, if it has the second version's number.
-fn head_told(alloc: Global, value: &Value) -> Result<FirstLine, TraceFault>
-    ensures { Gives (λ h. record { number = h.number; opening = h.opening }) result (head_in (view value.now)) }
+/// What a value opens, if it has the second version's number: the number of a chapter, and its opening.
+fn head_told(alloc: Global, value: &Value) -> Result<(u32, Opening), TraceFault>
+    ensures { Gives (λ h. h) result (head_in (view value.now)) }
 {
     if !is_second(value.get("version").and_then(count_of)) {
         return Err(TraceFault::Shape);
@@ -95,12 +88,15 @@ fn head_told(alloc: Global, value: &Value) -> Result<FirstLine, TraceFault>
         return Err(TraceFault::Shape);
     };
     let opening = opening_told(alloc, opening)?;
-    Ok(FirstLine { number, opening })
+    Ok((number, opening))
 }
 
 /// What a first line opens; none if it opens nothing.
-pub(crate) fn head_line_in(alloc: Global, line: &[u8]) -> Result<Option<FirstLine>, AllocError>
-    ensures some { IfOk result (λ h. IfSome h (λ h. IsHeadLine line.now (record { number = h.number; opening = h.opening }))) }
+pub(crate) fn head_line_in(
+    alloc: Global,
+    line: &[u8],
+) -> Result<Option<(u32, Opening)>, AllocError>
+    ensures some { IfOk result (λ h. IfSome h (λ h. IsHeadLine line.now h)) }
     ensures none { IfOk result (λ h. IfNone h ((h : Head Global) → IsHeadLine line.now h → ⊥)) }
 {
     let Some(value) = value_in(alloc, line)? else {
