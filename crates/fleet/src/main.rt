@@ -3,7 +3,8 @@
 //! judges a plan of any planner. `fleet stats MAP TRACE..` prints figures of traces. `fleet talk MAP` answers lines as
 //! they come. `fleet convert --to FORM MAP INPUT` prints a trace as a plan, or a plan as a trace, and `fleet explain
 //! MAP [INPUT]` says what is wrong with files. `fleet live MAP` keeps a fleet in real time. `fleet judge MAP TRACE..`
-//! judges traces, and `fleet map --robots N MAP` says what a map offers for a fleet. What each word does is in
+//! judges traces, and `fleet map --robots N MAP` says what a map offers for a fleet. `fleet execute MAP PLAN`
+//! executes a plan. What each word does is in
 //! `fleet_lib`.
 #![tactic(auto)]
 
@@ -13,6 +14,7 @@ mod convert;
 mod density;
 mod descriptors;
 mod ends;
+mod execute;
 mod explain;
 mod figures;
 mod files;
@@ -33,6 +35,7 @@ mod view;
 use check::run_check;
 use convert::run_convert;
 use descriptors::are_open;
+use execute::execute_plan;
 use explain::run_explain;
 use fleet_lib::{InputFault, Job, WordFault, fail, parse_words, write_whole};
 use folder::{Start, complain_of_folder, hold_folder, tell_start};
@@ -100,7 +103,7 @@ fn job_open<W: Write, E: Write>(
     error: &mut E,
 ) -> Result<Job, u8> {
     let job = job_given(rt, output, error)?;
-    let talks = matches!(&job, Job::Talk(_) | Job::Live(_));
+    let talks = matches!(&job, Job::Talk(_) | Job::Live(_) | Job::Execute(_));
     if talks && !are_open(rt, error) {
         return Err(3);
     }
@@ -120,6 +123,11 @@ fn main(rt: HostRuntime) -> ExitCode {
         Ok(Job::Stats(stats)) => run_stats(&rt, &stats, &mut output, &mut error),
         Ok(Job::Judge(judge)) => run_judge(&rt, &judge, &mut output, &mut error),
         Ok(Job::Map(asked)) => run_map(&rt, &asked, &mut output, &mut error),
+        // Who executes a plan is told that its moves are not read.
+        Ok(Job::Execute(execute)) => {
+            let mut moves = rt.stdout();
+            execute_plan(&rt, &execute, (rt.stdin(), &mut moves), &mut error)
+        }
         Ok(Job::Live(live)) => {
             let name = live.traces.as_deref();
             let start = Start::of(live.resume, live.resume_only);

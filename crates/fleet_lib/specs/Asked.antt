@@ -25,6 +25,7 @@ use Rattle.fleet_lib.specs.declared.words.stats.Figures.TheVariants as figures
 use Rattle.fleet_lib.specs.declared.words.stats.Stats.{Stats as StatsJob}
 use Rattle.fleet_lib.specs.declared.words.judge.Judge.{Judge as JudgeJob}
 use Rattle.fleet_lib.specs.declared.words.map.MapJob.{MapJob}
+use Rattle.fleet_lib.specs.declared.words.execute.Execute.{Execute as ExecuteJob}
 use Rattle.fleet_lib.specs.declared.words.job.Job.{Job}
 use Rattle.fleet_lib.specs.declared.words.job.Job.TheVariants as job
 
@@ -175,6 +176,13 @@ pub record IsMapJob (rows : List Row) (asked : MapJob) : Type 0 where
   pub json : asked.json ≡ has_flag (codes "json") rows
   pub floor : first_of (codes "MAP") rows ≡ Some (string_bytes asked.map)
 
+-- what the words after `execute` ask for
+pub record IsExecute (rows : List Row) (execute : ExecuteJob) : Type 0 where
+  pub clearance : first_of (codes "clearance") rows ≡ option_map (λ s. string_bytes s) execute.clearance
+  pub ahead : first_of (codes "ahead") rows ≡ option_map (λ s. string_bytes s) execute.ahead
+  pub floor : first_of (codes "MAP") rows ≡ Some (string_bytes execute.map)
+  pub plan : first_of (codes "PLAN") rows ≡ Some (string_bytes execute.plan)
+
 -- the job of a subcommand and the words that stand for its arguments
 abbrev pub IsJobOf : Option (Text × List Row) → Job → Type 0
 IsJobOf found (job.View view) = (rows : List Row) × (found ≡ Some (codes "view", rows)) × IsView rows view
@@ -186,3 +194,4 @@ IsJobOf found (job.Live live) = (rows : List Row) × (found ≡ Some (codes "liv
 IsJobOf found (job.Stats stats) = (rows : List Row) × (found ≡ Some (codes "stats", rows)) × IsStats rows stats
 IsJobOf found (job.Judge judge) = (rows : List Row) × (found ≡ Some (codes "judge", rows)) × IsJudge rows judge
 IsJobOf found (job.Map asked) = (rows : List Row) × (found ≡ Some (codes "map", rows)) × IsMapJob rows asked
+IsJobOf found (job.Execute execute) = (rows : List Row) × (found ≡ Some (codes "execute", rows)) × IsExecute rows execute

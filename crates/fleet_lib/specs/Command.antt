@@ -48,6 +48,11 @@ abbrev pub map_app : App
 map_app = with_rules (new_app (codes "map"))
     (number_rule (codes "robots") ∷ value_rule (codes "cells") ∷ flag_rule (codes "json") ∷ flag_rule (codes "prune") ∷ file_rule (codes "MAP") ∷ [])
 
+-- execute [--clearance RULE] [--ahead N] MAP PLAN
+abbrev pub execute_app : App
+execute_app = with_rules (new_app (codes "execute"))
+    (value_rule (codes "clearance") ∷ number_rule (codes "ahead") ∷ file_rule (codes "MAP") ∷ file_rule (codes "PLAN") ∷ [])
+
 -- fleet, which tells its version and wants a word
 abbrev pub fleet_app : App
-fleet_app = with_words (program_top (codes "fleet") true) (view_app ∷ check_app ∷ talk_app ∷ convert_app ∷ explain_app ∷ live_app ∷ stats_app ∷ judge_app ∷ map_app ∷ [])
+fleet_app = with_words (program_top (codes "fleet") true) (view_app ∷ check_app ∷ talk_app ∷ convert_app ∷ explain_app ∷ live_app ∷ stats_app ∷ judge_app ∷ map_app ∷ execute_app ∷ [])

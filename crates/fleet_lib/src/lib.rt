@@ -6,6 +6,7 @@ mod chapter_bytes;
 mod check;
 mod convert;
 mod ending;
+mod execute;
 mod explain;
 mod holding;
 mod judge;
@@ -24,6 +25,8 @@ mod words;
 
 pub use check::{PlanRules, answer_check};
 pub use convert::answer_convert;
+pub use execute::{ExecuteTexts, run_execute};
+pub use execution_law::Clearance;
 pub use explain::{
     MOST_SCRIPT_BYTES, answer_explain_head, answer_explain_map, answer_explain_plan,
     answer_explain_script, answer_explain_trace,
@@ -46,6 +49,6 @@ pub use talk::{TalkTexts, run_talk};
 pub use talk_words::{TalkWordFault, complain_of_talk, talk_settings};
 pub use view::{MOST_TRACE_BYTES, answer_view};
 pub use words::{
-    Check, Convert, Explain, Figures, FormAsked, Job, Judge, Live, MapJob, Shown, Stats, Talk,
-    Target, View, WordFault, parse_words,
+    Check, Convert, Execute, Explain, Figures, FormAsked, Job, Judge, Live, MapJob, Shown, Stats,
+    Talk, Target, View, WordFault, parse_words,
 };

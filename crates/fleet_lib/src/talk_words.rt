@@ -1,7 +1,9 @@
 //! How a conversation is held, by the words of `talk`.
 
-ghost use Rattle.std.specs.Prelude.{◌≡◌, ◌≢◌, ◌≤◌, ◌<◌, ◌⊎◌, ℕ, Err, None, Some, true, false, IfOk, IfSome, string_bytes};
-ghost use Rattle.fleet_map.specs.Text.{number_of};
+ghost use Rattle.std.specs.Prelude.{◌≡◌, ◌≢◌, ℕ, Err, None, true, false, IfOk, IsSomeAnd, string_bytes};
+ghost use Rattle.std.specs.Option.{option_map};
+ghost use Rattle.fleet_text.specs.Transfer.{AppendsPrefix};
+ghost use Rattle.fleet_lib.specs.Length.{AsksBytes, word_complaint};
 
 use crate::chapter_bytes::chapter_bytes_in;
 use crate::words::Talk;
@@ -23,11 +25,10 @@ pub enum TalkWordFault {
 pub fn talk_settings(talk: &Talk) -> Result<Settings, TalkWordFault>
     ensures marks { IfOk result (λ s. s.marks ≡ talk.now.marks) }
     ensures roomy { IfOk result (λ s. s.roomy ≡ talk.now.roomy) }
-    ensures stays { IfOk result (λ s. talk.now.roll ≡ false → s.roll ≡ None) }
-    ensures plain { IfOk result (λ s. talk.now.roll ≡ true → talk.now.chapter_bytes ≡ None → s.roll ≡ Some 67108864) }
-    ensures bytes { IfOk result (λ s. talk.now.roll ≡ true → IfSome talk.now.chapter_bytes (λ text. number_of (string_bytes text) ≡ s.roll)) }
+    ensures stays { IfOk result (λ s. talk.now.roll ≡ false → (s.roll ≡ None) × (talk.now.chapter_bytes ≡ None)) }
+    ensures rolls { IfOk result (λ s. talk.now.roll ≡ true → IsSomeAnd s.roll (AsksBytes (option_map (λ w. string_bytes w) talk.now.chapter_bytes))) }
     ensures no_roll { result ≡ Err TalkWordFault.NoRoll → (talk.now.roll ≡ false) × (talk.now.chapter_bytes ≢ None) }
-    ensures refused { result ≡ Err TalkWordFault.ChapterBytes → IfSome talk.now.chapter_bytes (λ text. (n : ℕ) → number_of (string_bytes text) ≡ Some n → (n < 1048576) ⊎ (1073741824 < n)) }
+    ensures refused { result ≡ Err TalkWordFault.ChapterBytes → (talk.now.roll ≡ true) × ((n : ℕ) → AsksBytes (option_map (λ w. string_bytes w) talk.now.chapter_bytes) n → ⊥) }
 {
     let roll = if talk.roll {
         match chapter_bytes_in(&talk.chapter_bytes) {
@@ -48,7 +49,8 @@ pub fn talk_settings(talk: &Talk) -> Result<Settings, TalkWordFault>
 
 /// Prints what is wrong with the words. Returns the status.
 pub fn complain_of_talk<E: Write>(fault: TalkWordFault, error: &mut E) -> u8
-    ensures { result ≡ 2 }
+    ensures status { result ≡ 2 }
+    ensures told { AppendsPrefix (E.contents error.old) (E.contents error.new) (word_complaint fault) }
 {
     let text = match fault {
         TalkWordFault::NoRoll => "error: '--chapter-bytes' needs '--roll'\n",

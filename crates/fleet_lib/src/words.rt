@@ -4,6 +4,7 @@
 mod arguments;
 mod check;
 mod convert;
+mod execute;
 mod explain;
 mod job;
 mod judge;
@@ -17,6 +18,7 @@ mod view;
 pub use check::{Check, FormAsked};
 pub use command_words::WordFault;
 pub use convert::{Convert, Target};
+pub use execute::Execute;
 pub use explain::Explain;
 pub use job::{Job, parse_words};
 pub use judge::Judge;

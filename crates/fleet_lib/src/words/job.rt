@@ -8,6 +8,7 @@ ghost use Rattle.command_words.specs.declared.words.WordFault.TheVariants.{NoMem
 
 use crate::words::check::{Check, check_in};
 use crate::words::convert::{Convert, convert_in};
+use crate::words::execute::{Execute, execute_in};
 use crate::words::explain::{Explain, explain_in};
 use crate::words::judge::{Judge, judge_in};
 use crate::words::live::{Live, live_in};
@@ -32,6 +33,7 @@ pub enum Job {
     Stats(Stats),
     Judge(Judge),
     Map(MapJob),
+    Execute(Execute),
 }
 
 /// The job of the words that `clap` accepted.
@@ -58,6 +60,8 @@ fn job_from(alloc: Global, matches: &ArgMatches<'_>) -> Result<Job, AllocError>
                 Ok(Job::Judge(judge_in(alloc, inner)?))
             } else if name == "map" {
                 Ok(Job::Map(map_in(alloc, inner)?))
+            } else if name == "execute" {
+                Ok(Job::Execute(execute_in(alloc, inner)?))
             } else {
                 // `clap` takes no other word, so this never runs
                 Err(AllocError)

@@ -6,6 +6,7 @@ ghost use Rattle.fleet_lib.specs.Command.{fleet_app};
 
 use crate::words::check::CHECK;
 use crate::words::convert::CONVERT;
+use crate::words::execute::EXECUTE;
 use crate::words::explain::EXPLAIN;
 use crate::words::judge::JUDGE;
 use crate::words::live::LIVE;
@@ -21,12 +22,12 @@ pub(crate) const VERSION: &str = "0.1.0";
 /// The program.
 pub(crate) const FLEET: Program<'static> = Program {
     name: "fleet",
-    about: "Looks at fleets of robots: shows traces of what they did and counts figures of them, judges them, judges plans and writes them, says what maps offer, answers lines as they come, and keeps fleets in real time",
+    about: "Looks at fleets of robots: shows traces of what they did and counts figures of them, judges them, judges plans, writes and executes them, says what maps offer, answers lines as they come, and keeps fleets in real time",
     version: VERSION,
     note: None,
     needs_word: true,
     words: &[
-        VIEW, CHECK, TALK, CONVERT, EXPLAIN, LIVE, STATS, JUDGE, MAP_WORD,
+        VIEW, CHECK, TALK, CONVERT, EXPLAIN, LIVE, STATS, JUDGE, MAP_WORD, EXECUTE,
     ],
 };
 

@@ -1,0 +1,89 @@
+//! The word `execute`.
+
+ghost use Rattle.std.specs.Prelude.{◌≤◌, vec_len, IfOk};
+
+use crate::ends::{FileFault, MOST_MAP_BYTES, complain, file_bytes};
+use fleet_lib::{
+    Clearance, Execute, ExecuteTexts, InputFault, MOST_PLAN_BYTES, fail, run_execute, write_whole,
+};
+use std::alloc::{Alloc, Global};
+use std::fs::Files;
+use std::io::{BufReader, Read, Write};
+
+/// The greatest number of bytes that are read at once.
+const PIECE: usize = 65_536;
+/// How many steps are looked at if no number is given.
+const AHEAD: u32 = 10;
+
+/// The rule that the word names; none if it names no rule.
+fn clearance_asked(word: &Option<String>) -> Option<Clearance> {
+    let Some(word) = word else {
+        return Some(Clearance::Arrived);
+    };
+    if word.as_str() == "arrived" {
+        Some(Clearance::Arrived)
+    } else if word.as_str() == "started" {
+        Some(Clearance::Started)
+    } else {
+        None
+    }
+}
+
+/// The number that the word says, if it is one from 1; `AHEAD` if there is no word.
+fn ahead_asked(word: &Option<String>) -> Option<u32> {
+    let Some(word) = word else {
+        return Some(AHEAD);
+    };
+    match word.as_str().parse::<u32>() {
+        Ok(0) => None,
+        Ok(ahead) => Some(ahead),
+        Err(_) => None,
+    }
+}
+
+/// The map and the plan, which are opened and read in their order.
+fn texts_of<'a, R: Files + Alloc<A = Global>>(
+    rt: &R,
+    execute: &'a Execute,
+) -> Result<(Vec<u8>, Vec<u8>), FileFault<'a>>
+    ensures { IfOk result (λ texts. vec_len texts.1 ≤ 1073741824) }
+{
+    let map = file_bytes(rt, execute.map.as_str(), MOST_MAP_BYTES)?;
+    let plan = file_bytes(rt, execute.plan.as_str(), MOST_PLAN_BYTES)?;
+    Ok((map, plan))
+}
+
+/// Executes the plan. Returns the status: 2 no such rule or window, 3 a file failed, or as of `run_execute`.
+pub(crate) fn execute_plan<R: Files + Alloc<A = Global>, I: Read + Drop, W: Write, E: Write>(
+    rt: &R,
+    execute: &Execute,
+    (input, output): (I, &mut W),
+    error: &mut E,
+) -> u8 {
+    let Some(clearance) = clearance_asked(&execute.clearance) else {
+        write_whole(
+            error,
+            b"error: invalid value for '--clearance <RULE>'\n  [possible values: arrived, started]\n",
+        );
+        return 2;
+    };
+    let Some(ahead) = ahead_asked(&execute.ahead) else {
+        write_whole(
+            error,
+            b"error: invalid value for '--ahead <N>': at least 1\n",
+        );
+        return 2;
+    };
+    let (map, plan) = match texts_of(rt, execute) {
+        Ok(texts) => texts,
+        Err(fault) => return complain(rt, fault, error),
+    };
+    let Ok(mut input) = BufReader::with_capacity(rt.alloc(), PIECE, input) else {
+        return fail(InputFault::NoMemory, error);
+    };
+    let texts = ExecuteTexts {
+        map: &map,
+        plan: &plan,
+    };
+    run_execute(rt, texts, (clearance, ahead), (&mut input, output), error)
+}

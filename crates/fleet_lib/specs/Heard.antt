@@ -1,0 +1,14 @@
+-- What a line says.
+use Rattle.std.specs.Prelude.{ℕ, List, [], ◌∷◌, Option, Some, None, if◌then◌else◌, codes}
+use Rattle.std.specs.Str.{bytes_eq}
+use Rattle.fleet_script.specs.Numbers.{most32, one_in}
+use Rattle.fleet_execute.specs.declared.heard.Heard.{Heard}
+use Rattle.fleet_execute.specs.declared.heard.Heard.TheVariants.{Nothing, Reached, Other}
+
+abbrev pub report_in : Option ℕ → Heard
+report_in None = Other
+report_in (Some robot) = Reached robot
+
+abbrev pub words_heard : List (List ℕ) → Heard
+words_heard [] = Nothing
+words_heard (word ∷ words) = if bytes_eq word (codes "reached") then report_in (one_in most32 words) else Other

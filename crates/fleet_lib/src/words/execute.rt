@@ -1,0 +1,62 @@
+//! The word `execute`.
+
+ghost use Rattle.std.specs.Prelude.{IfOk};
+ghost use Rattle.clap.specs.Words.{found_of, rows_of};
+ghost use Rattle.fleet_lib.specs.Asked.{IsExecute};
+
+use crate::words::arguments::MAP;
+use clap::ArgMatches;
+use command_words::{Argument, Kind, Word, some_word_for, word_for};
+use std::alloc::{AllocError, Global};
+
+/// To execute a plan on a map with robots that report.
+#[derive(Debug, Drop)]
+pub struct Execute {
+    /// When a cell is clear: `arrived` or `started`.
+    pub clearance: Option<String>,
+    /// How many steps are planned at most that are not reached.
+    pub ahead: Option<String>,
+    pub map: String,
+    pub plan: String,
+}
+
+/// `execute [--clearance RULE] [--ahead N] MAP PLAN`.
+pub(crate) const EXECUTE: Word<'static> = Word {
+    name: "execute",
+    about: "Executes a plan of any planner with robots that are not in step: prints which move may begin, and reads which robots have arrived",
+    example: "Example: fleet execute arena.map plan.txt < reports > moves",
+    arguments: &[
+        Argument {
+            name: "clearance",
+            kind: Kind::Value("RULE"),
+            help: "When a robot may move to a cell: once the robot on it has `arrived` on its next one (if not given), or has `started` to leave",
+        },
+        Argument {
+            name: "ahead",
+            kind: Kind::Number("N"),
+            help: "How many steps of the plan are looked at that are not reached by all robots; 10 if not given",
+        },
+        MAP,
+        Argument {
+            name: "PLAN",
+            kind: Kind::File,
+            help: "A plan in any form that `fleet check` reads without --form",
+        },
+    ],
+};
+
+/// What the arguments of `execute` ask for.
+pub(crate) fn execute_in(alloc: Global, matches: &ArgMatches<'_>) -> Result<Execute, AllocError>
+    ensures { IfOk result (λ execute. IsExecute (rows_of (found_of matches.now)) execute) }
+{
+    let clearance = some_word_for(alloc, matches, "clearance")?;
+    let ahead = some_word_for(alloc, matches, "ahead")?;
+    let map = word_for(alloc, matches, "MAP")?;
+    let plan = word_for(alloc, matches, "PLAN")?;
+    Ok(Execute {
+        clearance,
+        ahead,
+        map,
+        plan,
+    })
+}
