@@ -1,0 +1,4 @@
+pub mod ToCores
+pub mod CoreDistances
+pub mod Plans
+pub mod Puts
