@@ -19,7 +19,7 @@ use Rattle.fleet_planner.specs.Courses.{Courses, AreOn, goals_of, goal, way_to}
 use Rattle.fleet_planner.specs.Lending.{IsRank, IsLent, goal_at}
 use Rattle.fleet_planner.specs.declared.lending.Lending.{Lending}
 use Rattle.turns_law.specs.Turns.{Turns, AreAway, AreTurns}
-use Rattle.fleet_turns.specs.Planning.{IsReadyAt}
+use Rattle.fleet_turns.specs.Planning.{TurnPlanner, IsReadyAt}
 use Rattle.turns_law.specs.Turn.{goal_in_turn, IsTurn}
 use Rattle.fleet_turns.specs.inside.Lent.{goal_lent, way_lent, AreLent}
 use Rattle.fleet_turns.proofs.ToCores.{goal_lender, goal_other}
@@ -182,6 +182,11 @@ lent_over core core' door door' mouth mouth' capacity capacity' away away' cells
     (subst (λ (x : List ℕ). IsLent core door mouth x away' cells goals' waits ranks lending) d
     (subst (λ (x : List ℕ). IsLent core door mouth capacity x cells goals' waits ranks lending) e
     (subst (λ (x : List (Option ℕ)). IsLent core door mouth capacity away cells x waits ranks lending) f lent)))))
+
+-- a turn of a planner that is equal to this one
+pub turn_over : (m : Floor) (p q : TurnPlanner) (waits : List (Option ℕ)) (cells : List ℕ) (lending : Lending) {laws : List TieLaw} {to : List ℕ} → p ≡ q →
+    IsTurn m p.turns laws (goals_of p.courses) waits cells to lending → IsTurn m q.turns laws (goals_of q.courses) waits cells to lending
+turn_over m p q waits cells lending {laws} {to} same turn = subst (λ (x : TurnPlanner). IsTurn m x.turns laws (goals_of x.courses) waits cells to lending) same turn
 
 -- who goes first is one of the robots
 pub eldest_known : (waits ranks : List (Option ℕ)) (x : ℕ) → length ranks ≡ length waits → IsEldest ranks x → x < length waits

@@ -4,9 +4,8 @@ use Rattle.std.proofs.lemmas.Grind.{common_steps}
 use Rattle.fleet_planner.specs.Courses.{goals_of}
 use Rattle.fleet_planner.specs.Lending.{IsLent}
 use Rattle.turns_law.specs.Turns.{Turns}
-use Rattle.turns_law.specs.Turn.{IsTurn}
 use Rattle.fleet_turns.specs.Planning.{TurnPlanner, IsPlannerOf, IsReady}
-use Rattle.fleet_turns.proofs.Plans.{lent_over, step_goals, step_shows, turn_made, ranks_length, eldest_known}
+use Rattle.fleet_turns.proofs.Plans.{lent_over, step_goals, step_shows, turn_made, turn_over, ranks_length, eldest_known}
 use Rattle.fleet_turns.proofs.planner.TurnPlanner.plan.Goals as goal
 
 pub step-requires-clause-goals : goal.step-requires-clause-goals
@@ -53,6 +52,6 @@ returns-clause-turn g c =
     lent_over _ _ _ _ _ _ _ _ _ _ c.args.fleet.cells.now _ _ c.args.fleet.waits.now c.lend-lending.new.ranks c.lend-lending.result
     c.deref.ensures.value c.deref-2.ensures.value c.deref-3.ensures.value c.deref-4.ensures.value c.deref-5.ensures.value (c.deref-6.ensures.value ∙ c.self.invariant) c.lend-lending.ensures.lent in
     let ranks : c.deref-7.result.now ≡ c.lend-lending.new.ranks = grind (arith, common_steps, c.deref_mut.ensures.value, c.deref-7.ensures.value) in
-    subst (λ (q : TurnPlanner). IsTurn m q.turns _ (goals_of q.courses) c.args.fleet.waits.now c.args.fleet.cells.now _ c.lend-lending.result) c.self.view_is
+    turn_over m _ _ c.args.fleet.waits.now c.args.fleet.cells.now c.lend-lending.result c.self.view_is
     (turn_made m t planner.turns c.args.fleet.cells.now (goals_of p.guide.courses) c.args.fleet.waits.now c.lend-lending.new.ranks c.lend-lending.result lent p.guide.courses c.lend_to.new.self.goal
     refl ready.placed ready.waiting c.lend_to.ensures.goal c.lend_to.ensures.lender c.lend_to.ensures.courses ranks refl c.lend-lending.ensures.first c.in_ok-step.ensures.stepped)
