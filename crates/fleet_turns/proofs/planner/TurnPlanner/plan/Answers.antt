@@ -36,10 +36,10 @@ step-requires-clause-shows g c =
     refl ready.placed ready.waiting c.lend_to.ensures.goal c.lend_to.new.self.core.items c.lend_to.new.self.away.items c.lend_to.new.self.lender c.lend_to.new.self.courses
     c.lend_to.ensures.core c.lend_to.ensures.away c.lend_to.ensures.lender c.lend_to.ensures.courses planner.on
     (λ x is. (
-      let many = ranks_length t.core t.door t.mouth t.capacity t.away c.args.fleet.cells.now (goals_of p.guide.courses) c.args.fleet.waits.now c.lend-lending.new.ranks c.lend-lending.result lent in
-      let l = eldest_known c.args.fleet.waits.now c.lend-lending.new.ranks x many (c.lend-lending.ensures.first x is) in
-      let same = ready.waiting in
-      omega (arith, l, same)))
+    let many = ranks_length t.core t.door t.mouth t.capacity t.away c.args.fleet.cells.now (goals_of p.guide.courses) c.args.fleet.waits.now c.lend-lending.new.ranks c.lend-lending.result lent in
+    let l = eldest_known c.args.fleet.waits.now c.lend-lending.new.ranks x many (c.lend-lending.ensures.first x is) in
+    let same = ready.waiting in
+    omega (arith, l, same)))
 
 pub returns-clause-turn : goal.returns-clause-turn
 returns-clause-turn g c =
