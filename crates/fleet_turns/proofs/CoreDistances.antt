@@ -4,16 +4,10 @@ use Rattle.std.specs.Prelude.{slice_index}
 use Rattle.fleet_grid.specs.Floor.{Floor, IsFloor, IsNeighbour, IsNeighbourIn}
 use Rattle.fleet_grid.specs.Walk.{Walks, AreJoined, IsDistance}
 use Rattle.fleet_grid.specs.declared.dir.Dir.{Dir}
-use Rattle.fleet_grid.specs.declared.dir.Dir.TheVariants.{North, East, South, West}
 use Rattle.fleet_grid.proofs.Walks.{same_along}
 use Rattle.turns_law.specs.Turns.{AreAway}
+use Rattle.fleet_turns.proofs.OnFloor.{way_ends_on_floor}
 use Rattle.fleet_turns.specs.inside.Checked.{IsEven, IsOneNearer, IsAwayAt}
-
-pub all_ways : (P : Dir → Type 0) → P North → P East → P South → P West → (dir : Dir) → P dir
-all_ways P n e s w North = n
-all_ways P n e s w East = e
-all_ways P n e s w South = s
-all_ways P n e s w West = w
 
 long : (c : ℕ) (cs : List ℕ) → length (c ∷ cs) ≡ length cs + 1
 long c cs = grind arith
@@ -64,11 +58,7 @@ module _ (m : Floor) (core away : List ℕ) (checked : (c : ℕ) → IsFloor m c
   ]
 
   floor_core : (c : ℕ) → IsFloor m c → IsFloor m (slice_index core c)
-  floor_core c floor = let j = joined c floor in go c j.steps floor j.walk
-    where
-      go : (x : ℕ) (cs : List ℕ) → IsFloor m x → Walks (IsNeighbour m) x cs (slice_index core c) → IsFloor m (slice_index core c)
-      go x [] f w = subst (IsFloor m) w f
-      go x (y ∷ cs) f w = go y cs w.0.1.to w.1
+  floor_core c floor = way_ends_on_floor m c (slice_index core c) floor (joined c floor)
 
   pub are_away : AreAway m core away
   unfolding HasWay

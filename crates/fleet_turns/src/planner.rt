@@ -229,9 +229,10 @@ impl<A: Allocator + Copy> TurnPlanner<A> {
         };
         let lending = lend(rooms, cells, &self.goals, waits, &mut self.ranks);
         self.guide.lend_to(lending.lender, cells);
+        let order = self.ranks.as_slice();
         let input = StepInput {
             cells,
-            ranks: &self.ranks,
+            ranks: order,
             door: lending.door,
             tick,
         };

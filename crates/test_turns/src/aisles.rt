@@ -90,12 +90,12 @@ fn tick_from(
         TieHook::fixed([0; 4]),
         TieHook::fixed([0; 4]),
     ];
+    let mut to = cells;
     let fleet = Fleet {
         cells: &cells,
         waits: &waits,
         tick,
     };
-    let mut to = cells;
     planner
         .plan(grid, fleet, &ties, &mut to)
         .expect(rt, "memory for a tick");
@@ -114,20 +114,27 @@ fn planner_of(rt: &impl Abort, alloc: Global, grid: &Grid) -> TurnPlanner
     planner
 }
 
+/// Makes the ticks until the last robot has arrived.
+fn run(rt: &impl Abort, alloc: Global, planner: &mut TurnPlanner, grid: &Grid)
+    requires { IsPlannerOf grid.now 4 planner.old }
+{
+    let mut cells = STARTS;
+    for tick in 0..ROWS.len() {
+        cells = tick_from(rt, planner, grid, cells, tick as u64);
+        assert!(rt; cells == ROWS[tick]);
+        land(rt, alloc, planner, grid, &cells, 0);
+        land(rt, alloc, planner, grid, &cells, 1);
+        land(rt, alloc, planner, grid, &cells, 2);
+        land(rt, alloc, planner, grid, &cells, 3);
+    }
+    assert!(rt; planner.goals() == [None; 4].as_slice());
+}
+
 /// By plain priorities they stand still for ever after five ticks: `blind_aisles_without_turns` of test_grid.
 #[test]
 fn blind_aisles_are_reached(rt: HostRuntime) {
     let alloc = rt.alloc();
     let grid = grid_of(&rt, alloc, 5, 5, MAP);
     let mut planner = planner_of(&rt, alloc, &grid);
-    let mut cells = STARTS;
-    for tick in 0..16 {
-        cells = tick_from(&rt, &mut planner, &grid, cells, tick as u64);
-        assert!(rt; cells == ROWS[tick]);
-        land(&rt, alloc, &mut planner, &grid, &cells, 0);
-        land(&rt, alloc, &mut planner, &grid, &cells, 1);
-        land(&rt, alloc, &mut planner, &grid, &cells, 2);
-        land(&rt, alloc, &mut planner, &grid, &cells, 3);
-    }
-    assert!(rt; planner.goals() == [None; 4].as_slice());
+    run(&rt, alloc, &mut planner, &grid);
 }

@@ -16,6 +16,8 @@ use std::process::Abort;
 
 /// A grid with these letters, row by row.
 pub fn grid_of(rt: &impl Abort, alloc: Global, height: u32, width: u32, letters: &[u8]) -> Grid {
+    assert!(rt; height <= 1024 && width <= 1024);
+    assert!(rt; letters.len() == (height * width) as usize);
     let cells = Vec::from_slice(alloc, letters).expect(rt, "letters");
     let map = MapText {
         height,
@@ -77,12 +79,12 @@ fn planned(
         TieHook::fixed([0; 4]),
         TieHook::fixed([0; 4]),
     ];
+    let mut to = cells;
     let fleet = Fleet {
         cells: &cells,
         waits: &waits,
         tick: 1,
     };
-    let mut to = cells;
     let lending = planner
         .plan(&grid, fleet, &ties, &mut to)
         .expect(rt, "memory for a tick");

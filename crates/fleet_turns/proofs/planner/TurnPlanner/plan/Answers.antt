@@ -18,9 +18,9 @@ step-requires-clause-goals g c =
     let lent : IsLent t.core t.door t.mouth t.capacity t.away c.args.fleet.cells.now (goals_of p.guide.courses) c.args.fleet.waits.now c.lend-lending.new.ranks c.lend-lending.result =
     lent_over _ _ _ _ _ _ _ _ _ _ c.args.fleet.cells.now _ _ c.args.fleet.waits.now c.lend-lending.new.ranks c.lend-lending.result
     c.deref.ensures.value c.deref-2.ensures.value c.deref-3.ensures.value c.deref-4.ensures.value c.deref-5.ensures.value (c.deref-6.ensures.value ∙ c.self.invariant) c.lend-lending.ensures.lent in
-    let ranks : c.deref-7.result.now ≡ c.lend-lending.new.ranks = grind (arith, common_steps, c.deref_mut.ensures.value, c.deref-7.ensures.value) in
+    let ranks : c.as_slice-order.result.now ≡ c.lend-lending.new.ranks = grind (arith, common_steps, c.deref_mut.ensures.value, c.as_slice-order.ensures.value) in
     step_goals m t planner.turns c.args.fleet.cells.now (goals_of p.guide.courses) c.args.fleet.waits.now c.lend-lending.new.ranks c.lend-lending.result lent p.guide.courses c.lend_to.new.self.goal
-    refl ready.placed ready.waiting c.lend_to.ensures.goal c.lend_to.new.self.lender c.lend_to.new.self.courses c.deref-7.result.now c.lend_to.ensures.lender c.lend_to.ensures.courses ranks ready.each
+    refl ready.placed ready.waiting c.lend_to.ensures.goal c.lend_to.new.self.lender c.lend_to.new.self.courses c.as_slice-order.result.now c.lend_to.ensures.lender c.lend_to.ensures.courses ranks ready.each
 
 pub step-requires-clause-shows : goal.step-requires-clause-shows
 step-requires-clause-shows g c =
@@ -51,7 +51,7 @@ returns-clause-turn g c =
     let lent : IsLent t.core t.door t.mouth t.capacity t.away c.args.fleet.cells.now (goals_of p.guide.courses) c.args.fleet.waits.now c.lend-lending.new.ranks c.lend-lending.result =
     lent_over _ _ _ _ _ _ _ _ _ _ c.args.fleet.cells.now _ _ c.args.fleet.waits.now c.lend-lending.new.ranks c.lend-lending.result
     c.deref.ensures.value c.deref-2.ensures.value c.deref-3.ensures.value c.deref-4.ensures.value c.deref-5.ensures.value (c.deref-6.ensures.value ∙ c.self.invariant) c.lend-lending.ensures.lent in
-    let ranks : c.deref-7.result.now ≡ c.lend-lending.new.ranks = grind (arith, common_steps, c.deref_mut.ensures.value, c.deref-7.ensures.value) in
+    let ranks : c.as_slice-order.result.now ≡ c.lend-lending.new.ranks = grind (arith, common_steps, c.deref_mut.ensures.value, c.as_slice-order.ensures.value) in
     turn_over m _ _ c.args.fleet.waits.now c.args.fleet.cells.now c.lend-lending.result c.self.view_is
     (turn_made m t planner.turns c.args.fleet.cells.now (goals_of p.guide.courses) c.args.fleet.waits.now c.lend-lending.new.ranks c.lend-lending.result lent p.guide.courses c.lend_to.new.self.goal
     refl ready.placed ready.waiting c.lend_to.ensures.goal c.lend_to.ensures.lender c.lend_to.ensures.courses ranks refl c.lend-lending.ensures.first c.in_ok-step.ensures.stepped)
