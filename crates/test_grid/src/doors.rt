@@ -153,3 +153,18 @@ fn ring_through_a_door(rt: HostRuntime) {
     // Robot 1 can't make way and stays for good, so that the way south is shut too.
     assert!(rt; step_of(&rt, alloc, &grid, from, goals, door(1, 3)) == from);
 }
+
+/// Four robots go to the ends of three blind aisles and block each other: all wait equally long, so what happens once happens for ever.
+/// `blind_aisles_are_reached` of test_turns has the same robots.
+#[test]
+fn blind_aisles_without_turns(rt: HostRuntime) {
+    let alloc = rt.alloc();
+    let grid = grid_of(&rt, alloc, 5, 5, b".@.@..@.@.......@@@......");
+    let goals = [0, 4, 2, 0];
+    assert!(rt; step_of(&rt, alloc, &grid, [2, 7, 0, 4], goals, None) == [7, 12, 5, 9]);
+    assert!(rt; step_of(&rt, alloc, &grid, [7, 12, 5, 9], goals, None) == [12, 13, 10, 14]);
+    assert!(rt; step_of(&rt, alloc, &grid, [12, 13, 10, 14], goals, None) == [11, 14, 10, 9]);
+    assert!(rt; step_of(&rt, alloc, &grid, [11, 14, 10, 9], goals, None) == [10, 9, 5, 4]);
+    assert!(rt; step_of(&rt, alloc, &grid, [10, 9, 5, 4], goals, None) == [5, 9, 0, 4]);
+    assert!(rt; step_of(&rt, alloc, &grid, [5, 9, 0, 4], goals, None) == [5, 9, 0, 4]);
+}

@@ -1,0 +1,5 @@
+pub mod ToCores
+pub mod CoreDistances
+pub mod Plans
+pub mod Puts
+pub mod OnFloor

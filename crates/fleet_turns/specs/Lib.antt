@@ -1,0 +1,10 @@
+pub use Rattle.fleet_grid.specs.Floor
+pub use Rattle.fleet_grid.specs.Walk
+pub use Rattle.fleet_grid.specs.Step
+pub use Rattle.fleet_pibt.specs.Eldest
+pub use Rattle.fleet_pibt.specs.Door
+pub use Rattle.fleet_planner.specs.Lending
+pub use Rattle.turns_law.specs.Turns
+pub use Rattle.turns_law.specs.Turn
+pub mod Planning
+pub mod inside

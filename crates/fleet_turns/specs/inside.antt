@@ -1,0 +1,4 @@
+-- What only proofs and private functions use.
+pub mod Cores
+pub mod Lent
+pub mod Checked
