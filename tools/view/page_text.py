@@ -5,7 +5,7 @@ import pathlib
 HERE = pathlib.Path(__file__).resolve().parent
 # in this order: a part may use what is defined before it as soon as it is read
 PARTS = [
-    'read', 'graph', 'fault', 'changes', 'replay', 'bound', 'colours', 'place', 'heat', 'ground', 'draw', 'charts',
+    'read', 'graph', 'roomy', 'fault', 'changes', 'replay', 'bound', 'colours', 'place', 'heat', 'ground', 'draw', 'charts',
     'events', 'list', 'marks', 'time', 'address', 'state', 'input', 'start',
 ]
 

@@ -6,13 +6,15 @@ use std::alloc::{Alloc, Global};
 use std::fs::Files;
 use std::io::Write;
 
-/// What is asked for; nothing if both forms are.
+/// What is asked for; nothing if two forms are.
 fn form_of(asked: &MapJob) -> Option<MapForm> {
-    match (asked.json, asked.prune) {
-        (true, true) => None,
-        (true, false) => Some(MapForm::Json),
-        (false, true) => Some(MapForm::Pruned),
-        (false, false) => Some(MapForm::Lines),
+    match (asked.json, asked.prune, asked.svg, asked.mend) {
+        (false, false, false, false) => Some(MapForm::Lines),
+        (true, false, false, false) => Some(MapForm::Json),
+        (false, true, false, false) => Some(MapForm::Pruned),
+        (false, false, true, false) => Some(MapForm::Picture),
+        (false, false, false, true) => Some(MapForm::Mended),
+        _ => None,
     }
 }
 
@@ -56,7 +58,10 @@ pub(crate) fn run_map<R: Files + Alloc<A = Global>, W: Write, E: Write>(
         return 2;
     };
     let Some(form) = form_of(asked) else {
-        write_whole(error, b"error: '--prune' goes without '--json'\n");
+        write_whole(
+            error,
+            b"error: '--json', '--prune', '--svg' and '--mend' go without each other\n",
+        );
         return 2;
     };
     match answer_files(rt, form, robots, asked) {

@@ -173,6 +173,8 @@ pub record IsMapJob (rows : List Row) (asked : MapJob) : Type 0 where
   pub robots : IsRobotsAsked rows asked.robots
   pub cells : first_of (codes "cells") rows ≡ option_map (λ s. string_bytes s) asked.cells
   pub prune : asked.prune ≡ has_flag (codes "prune") rows
+  pub svg : asked.svg ≡ has_flag (codes "svg") rows
+  pub mend : asked.mend ≡ has_flag (codes "mend") rows
   pub json : asked.json ≡ has_flag (codes "json") rows
   pub floor : first_of (codes "MAP") rows ≡ Some (string_bytes asked.map)
 

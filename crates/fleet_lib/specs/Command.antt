@@ -43,10 +43,10 @@ stats_app = with_rules (new_app (codes "stats"))
 abbrev pub judge_app : App
 judge_app = with_rules (new_app (codes "judge")) (file_rule (codes "MAP") ∷ files_rule (codes "TRACE") ∷ [])
 
--- map --robots N [--cells FILE] [--json] [--prune] MAP
+-- map --robots N [--cells FILE] [--json] [--prune] [--svg] [--mend] MAP
 abbrev pub map_app : App
 map_app = with_rules (new_app (codes "map"))
-    (number_rule (codes "robots") ∷ value_rule (codes "cells") ∷ flag_rule (codes "json") ∷ flag_rule (codes "prune") ∷ file_rule (codes "MAP") ∷ [])
+    (number_rule (codes "robots") ∷ value_rule (codes "cells") ∷ flag_rule (codes "json") ∷ flag_rule (codes "prune") ∷ flag_rule (codes "svg") ∷ flag_rule (codes "mend") ∷ file_rule (codes "MAP") ∷ [])
 
 -- execute [--clearance RULE] [--ahead N] MAP PLAN
 abbrev pub execute_app : App

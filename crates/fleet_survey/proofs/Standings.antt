@@ -1,5 +1,5 @@
 -- For which errands the promises are, by the lists of bridges and of cells.
-use Rattle.std.proofs.Common.{ℕ, ◌<◌, inl, inr, Bool, List, length, get_or, arith}
+use Rattle.std.proofs.Common.{ℕ, inl, inr, Bool, List, length, get_or, arith}
 use Rattle.std.proofs.lemmas.List.Elements.{Contains-get_or}
 use Rattle.std.proofs.lemmas.Bool.{cases_Bool}
 use Rattle.fleet_grid.specs.Floor.{Floor, HasForm, IsNeighbour}

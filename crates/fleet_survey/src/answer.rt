@@ -6,9 +6,13 @@ use crate::cells::read_cells;
 use crate::fault::{CellsFault, SurveyFault};
 use crate::json::survey_json;
 use crate::least::roomy_for;
-use crate::page::{Listed, survey_lines};
-use crate::prune::{map_text, pruned};
+use crate::listed::Listed;
+use crate::mend::mended;
+use crate::page::{mending_lines, survey_lines};
+use crate::picture::survey_picture;
+use crate::prune::pruned;
 use crate::survey::{Survey, survey_of};
+use crate::text::map_text;
 use fleet_grid::Grid;
 use fleet_map::{MapFault, MapText, read_map};
 use std::alloc::{AllocError, Global};
@@ -22,6 +26,10 @@ pub enum SurveyForm {
     Json,
     /// The map without the cells that are not roomy.
     Pruned,
+    /// The map as a picture, with its bridges and the cells that are not roomy.
+    Picture,
+    /// Walls that, opened, make cells roomy.
+    Mended,
 }
 
 /// What is told of the cells of a list.
@@ -60,6 +68,16 @@ fn pruned_text(alloc: Global, grid: &Grid, robots: u32) -> Result<String, AllocE
     map_text(alloc, &pruned(alloc, grid, robots)?)
 }
 
+/// The picture.
+fn picture_text(alloc: Global, grid: &Grid, robots: u32) -> Result<String, AllocError> {
+    survey_picture(alloc, &survey_of(alloc, grid, robots)?)
+}
+
+/// The text of the walls to be opened.
+fn mended_text(alloc: Global, grid: &Grid, robots: u32) -> Result<String, AllocError> {
+    mending_lines(alloc, &mended(alloc, grid, robots)?)
+}
+
 /// What is told of a map.
 fn text_on(
     alloc: Global,
@@ -72,6 +90,8 @@ fn text_on(
         SurveyForm::Lines => figures_of(alloc, false, grid, robots, cells),
         SurveyForm::Json => figures_of(alloc, true, grid, robots, cells),
         SurveyForm::Pruned => Ok(pruned_text(alloc, grid, robots)?),
+        SurveyForm::Picture => Ok(picture_text(alloc, grid, robots)?),
+        SurveyForm::Mended => Ok(mended_text(alloc, grid, robots)?),
     }
 }
 

@@ -2,11 +2,11 @@
 
 ghost use Rattle.std.specs.Prelude.{◌≡◌, ◌↔◌, ◌++◌, IfOk, IsTrue, OnOk, false};
 ghost use Rattle.fleet_grid.specs.Floor.{IsFloor};
-ghost use Rattle.fleet_roomy.specs.Unroomy.{has};
+ghost use Rattle.fleet_roomy.specs.Unroomy.{IsUnroomyCell, has};
 ghost use Rattle.fleet_survey.specs.Survey.{AreCells, cell_if};
 
 use fleet_grid::Grid;
-use fleet_roomy::UnroomyCells;
+use fleet_roomy::{UnroomyCells, unroomy_cells};
 use std::alloc::{AllocError, Global};
 
 /// Whether the cell is floor and roomy.
@@ -51,4 +51,12 @@ pub(crate) fn floor_cells(
         )?;
     }
     Ok(cells)
+}
+
+/// The floor cells that are not roomy for this many robots, in their order. `AllocError` if memory runs out.
+pub fn unroomy_list(alloc: Global, grid: &Grid, robots: u32) -> Result<Vec<u32>, AllocError>
+    ensures { IfOk result (λ cells. AreCells (IsUnroomyCell grid.now robots) cells.items) }
+{
+    let unroomy = unroomy_cells(alloc, grid, robots)?;
+    floor_cells(alloc, grid, &unroomy, true)
 }

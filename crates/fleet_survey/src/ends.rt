@@ -47,7 +47,7 @@ fn take_around(
 }
 
 /// Takes all cells that hang together with one.
-fn take_all(
+pub(crate) fn take_all(
     alloc: Global,
     grid: &Grid,
     left: &mut Vec<bool>,

@@ -1,7 +1,7 @@
 //! A survey as a JSON object.
 
 use crate::ends::DeadEnd;
-use crate::page::Listed;
+use crate::listed::Listed;
 use crate::standing::Standing;
 use crate::survey::Survey;
 use std::alloc::{AllocError, Global};

@@ -3,24 +3,37 @@
 #![tactic(auto)]
 
 mod answer;
+mod around;
 mod cells;
 mod chosen;
 mod ends;
 mod fault;
 mod json;
 mod least;
+mod listed;
+mod mend;
+mod opened;
+mod owners;
 mod page;
+mod peel;
+mod picture;
 mod prune;
 mod standing;
 mod survey;
+mod text;
 
 pub use answer::{SurveyForm, survey_text};
 pub use cells::read_cells;
+pub use chosen::unroomy_list;
 pub use ends::DeadEnd;
 pub use fault::{CellsFault, SurveyFault};
 pub use json::survey_json;
 pub use least::roomy_for;
-pub use page::{Listed, survey_lines};
-pub use prune::{map_text, pruned};
+pub use listed::Listed;
+pub use mend::{Mending, mended};
+pub use page::{mending_lines, survey_lines};
+pub use picture::survey_picture;
+pub use prune::pruned;
 pub use standing::Standing;
 pub use survey::{Survey, survey_of};
+pub use text::map_text;

@@ -75,6 +75,10 @@ main { display: grid; grid-template-columns: minmax(0, 1fr) clamp(340px, 26vw, 4
 .sign.refusal { background: var(--mark); }
 .sign.wall { background: var(--wall); }
 .sign.shelf { background: var(--shelf); }
+.sign.unroomy { background: var(--fault); opacity: 0.3; }
+.sign.bridge { height: 2px; align-self: center; background: var(--fault); }
+.legend li[hidden] { display: none; }
+#roomy-told { margin: 6px 0 0; font-size: 12.5px; }
 dialog { color: var(--ink); background: var(--card); border: 1px solid var(--line); border-radius: 10px; max-width: 560px; }
 dialog::backdrop { background: rgb(0 0 0 / 45%); }
 .keys th, .keys td { text-align: left; white-space: normal; padding: 4px 10px 4px 0; }
@@ -161,6 +165,8 @@ tr.picked > * { background: color-mix(in srgb, var(--accent) 30%, transparent); 
 <li><span class="sign disc arrives"></span>arrives</li>
 <li><span class="sign wall"></span>wall</li>
 <li><span class="sign shelf"></span>tree or water</li>
+<li class="of-roomy" hidden><span class="sign unroomy"></span>not roomy for these robots</li>
+<li class="of-roomy" hidden><span class="sign bridge"></span>bridge</li>
 <li><span class="sign mark chapter"></span>a chapter begins</li>
 <li><span class="sign mark shutting"></span>a robot is shut</li>
 <li><span class="sign mark refusal"></span>an order is refused</li>
@@ -180,6 +186,7 @@ tr.picked > * { background: color-mix(in srgb, var(--accent) 30%, transparent); 
 </span>
 <label title="The current goal of each robot"><input type="checkbox" id="show-goals" checked> goals</label>
 <label title="From each robot to its goal"><input type="checkbox" id="show-lines" checked> lines</label>
+<label title="Bridges, and the cells that are not roomy for these robots: errands there may block them all for ever"><input type="checkbox" id="show-roomy"> bridges</label>
 <label title="Keeps the picked robot in the middle"><input type="checkbox" id="follow"> follow</label>
 <span class="together" role="group" aria-label="Zoom">
 <button type="button" id="zoom-out" aria-label="Zoom out">&minus;</button>
@@ -193,6 +200,7 @@ tr.picked > * { background: color-mix(in srgb, var(--accent) 30%, transparent); 
 </span>
 </div>
 <p id="keys" class="soft">Space plays, arrow keys go a tick back or on, + and &minus; zoom, W A S D move the map, [ and ] pick a robot, F follows it; ? shows all keys. A click on a robot picks it.</p>
+<p id="roomy-told" class="soft of-roomy" hidden></p>
 <p id="heat-scale" class="soft" hidden><span id="heat-least">0</span> <span class="ramp" aria-hidden="true"></span> <span id="heat-most"></span></p>
 </section>
 <section class="card" aria-label="Figures">
@@ -232,7 +240,7 @@ tr.picked > * { background: color-mix(in srgb, var(--accent) 30%, transparent); 
 <tr><th>[ ]</th><td>picks the robot before or after</td></tr>
 <tr><th>F</th><td>keeps the picked robot in the middle</td></tr>
 <tr><th>Esc</th><td>all robots again</td></tr>
-<tr><th>H G L</th><td>heat, goals, lines</td></tr>
+<tr><th>H G L R</th><td>heat, goals, lines, bridges with the cells that are not roomy</td></tr>
 <tr><th>J</th><td>jams: the heat of cells on which robots with an errand stood in the last 100 ticks</td></tr>
 <tr><th>Y</th><td>copies the link to what is shown</td></tr>
 <tr><th>?</th><td>shows this</td></tr>

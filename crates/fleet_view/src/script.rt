@@ -162,6 +162,103 @@ function hasBridge(map) {
   return false;
 }
 
+// ---- bridges, and the cells that are not roomy
+
+// An edge is a bridge if every walk between its ends crosses it. Each of its ends, with the cells that walks join to that
+// end without crossing the bridge, is a side. A cell is roomy for `robots` if each side that it is on has as many cells.
+class Roominess {
+  constructor(map, robots) {
+    this.map = map;
+    this.robots = robots;
+    const cells = map.floor.length;
+    // each cell's place in the order of a search in depth, from 1; the least place that an edge outside the search's tree
+    // reaches from the cell or below it; and how many cells are below it, itself with them
+    this.place = new Int32Array(cells);
+    this.least = new Int32Array(cells);
+    this.below = new Int32Array(cells);
+    this.parent = new Int32Array(cells).fill(-1);
+    this.order = new Int32Array(cells);
+    this.bridges = [];
+    this.unroomy = new Uint8Array(cells);
+    let placed = 0;
+    for (let cell = 0; cell < cells; cell += 1) {
+      if (map.floor[cell] && this.place[cell] === 0) placed = this.addPart(cell, placed);
+    }
+    this.bridges.sort((a, b) => a[0] - b[0] || a[1] - b[1]);
+  }
+
+  // Searches the part of the map that has a cell, and returns how many cells are placed then.
+  addPart(first, before) {
+    const { map, place, parent, order } = this;
+    let placed = before;
+    const enter = (cell) => {
+      order[placed] = cell;
+      placed += 1;
+      place[cell] = placed;
+    };
+    enter(first);
+    for (let cell = first; cell !== -1;) {
+      let next = -1;
+      eachNeighbour(map, cell, (other) => { if (place[other] === 0) next = other; });
+      if (next === -1) {
+        cell = parent[cell];
+      } else {
+        parent[next] = cell;
+        enter(next);
+        cell = next;
+      }
+    }
+    this.measure(before, placed);
+    this.mark(before, placed);
+    return placed;
+  }
+
+  // From the last cell to the first: what lies below a cell is known before the cell.
+  measure(from, to) {
+    const { map, place, least, below, parent, order } = this;
+    for (let at = to - 1; at >= from; at -= 1) {
+      const cell = order[at];
+      least[cell] = place[cell];
+      below[cell] = 1;
+      eachNeighbour(map, cell, (other) => {
+        if (parent[other] === cell) {
+          least[cell] = Math.min(least[cell], least[other]);
+          below[cell] += below[other];
+        } else if (parent[cell] !== other) {
+          least[cell] = Math.min(least[cell], place[other]);
+        }
+      });
+    }
+  }
+
+  // The cells below another one are a range of the order, so that a side is a range or all but one. `more` has at each place by how many
+  // sides that are too small it differs from the place before.
+  mark(from, to) {
+    const { place, least, below, parent, order, robots } = this;
+    const more = new Int32Array(to - from + 1);
+    const add = (begin, end) => {
+      more[begin] += 1;
+      more[end] -= 1;
+    };
+    for (let at = from + 1; at < to; at += 1) {
+      const cell = order[at];
+      if (least[cell] !== place[cell]) continue;
+      this.bridges.push([Math.min(cell, parent[cell]), Math.max(cell, parent[cell])]);
+      const [begin, end] = [at - from, at - from + below[cell]];
+      if (below[cell] < robots) add(begin, end);
+      if (to - from - below[cell] < robots) {
+        add(0, begin);
+        add(end, to - from);
+      }
+    }
+    let small = 0;
+    for (let at = from; at < to; at += 1) {
+      small += more[at - from];
+      if (small > 0) this.unroomy[order[at]] = 1;
+    }
+  }
+}
+
 // ---- what is wrong with the entry that breaks a rule
 
 // The rule and the entry are the judge's, which the page carries. Which robots and cells are at fault is found here.
@@ -995,7 +1092,11 @@ class Heat {
   }
 }
 
-// ---- what lies under the robots: letters, heat, grid
+// ---- what lies under the robots: letters, heat, bridges and cells that are not roomy, grid
+
+const ROOMY_STRENGTH = 0.3;
+// a bridge's line, in cells
+const BRIDGE_WIDTH = 0.14;
 
 class MapGround extends MapPlace {
   constructor(canvas, replay) {
@@ -1045,10 +1146,45 @@ class MapGround extends MapPlace {
     pen.imageSmoothingEnabled = false;
     this.drawCells(this.ground);
     if (this.shows.heat) this.drawHeat();
+    if (this.shows.roomy) this.drawRoomy();
     pen.strokeStyle = colours.line;
     pen.lineWidth = 1;
     pen.strokeRect(view.left, view.top, map.width * view.scale, map.height * view.scale);
     if (numbered) this.drawGrid();
+  }
+
+  // Once, when it is first asked for.
+  findRoominess() {
+    this.roominess ??= new Roominess(this.map, this.replay.robots);
+    return this.roominess;
+  }
+
+  // The cells that are not roomy for the robots, and the bridges, each as a line between its two cells.
+  drawRoomy() {
+    const { pen, view, colours } = this;
+    const { bridges, unroomy } = this.findRoominess();
+    if (this.paintedRoomy !== colours) this.paintRoomy(unroomy);
+    this.paintedRoomy = colours;
+    pen.globalAlpha = ROOMY_STRENGTH;
+    this.drawCells(this.roomyCanvas);
+    pen.globalAlpha = 1;
+    pen.strokeStyle = colours.fault;
+    pen.lineWidth = Math.max(1, view.scale * BRIDGE_WIDTH);
+    pen.beginPath();
+    for (const [lower, upper] of bridges) {
+      pen.moveTo(...this.pointOf(lower));
+      pen.lineTo(...this.pointOf(upper));
+    }
+    pen.stroke();
+  }
+
+  paintRoomy(unroomy) {
+    this.roomyCanvas = this.cellCanvas();
+    const pen = this.roomyCanvas.getContext('2d');
+    pen.fillStyle = this.colours.fault;
+    unroomy.forEach((is, cell) => {
+      if (is) pen.fillRect(cell % this.map.width, Math.floor(cell / this.map.width), 1, 1);
+    });
   }
 
   drawHeat() {
@@ -1111,7 +1247,7 @@ const CROWDED_SIZE = 0.6;
 class MapView extends MapGround {
   constructor(canvas, replay) {
     super(canvas, replay);
-    this.shows = { heat: false, goals: true, lines: true };
+    this.shows = { heat: false, goals: true, lines: true, roomy: false };
     this.picked = null;
     this.follows = false;
     this.faults = [];
@@ -1948,11 +2084,13 @@ class Player {
 
 // ---- the address: what is shown, as words after `#`
 
-const SHOWN = ['heat', 'goals', 'lines'];
+const SHOWN = ['heat', 'goals', 'lines', 'roomy'];
+// what is drawn if nothing is said
+const SHOWN_FIRST = ['goals', 'lines'];
 const ADDRESS_EVERY = 300;
 
 // `t=140` is the tick at which the clock is 140, `robot=3` the picked robot, `zoom=2.5,10,7` shows the map 2.5 times as
-// large with column 10, row 7 in the middle, and `heat=1&goals=0&lines=0` says what is drawn. `heat=stood-100` is the
+// large with column 10, row 7 in the middle, and `heat=1&goals=0&lines=0&roomy=1` says what is drawn. `heat=stood-100` is the
 // heat of cells on which robots stood in the last 100 ticks.
 class Address {
   constructor(page) {
@@ -1978,7 +2116,7 @@ class Address {
     if (view.picked !== null) words.push(`robot=${view.picked}`);
     const { zoom, middle } = view;
     if (zoom > 1) words.push(`zoom=${zoom.toFixed(2)},${middle.x.toFixed(1)},${middle.y.toFixed(1)}`);
-    const others = SHOWN.filter((name) => view.shows[name] !== (name !== 'heat'));
+    const others = SHOWN.filter((name) => view.shows[name] !== SHOWN_FIRST.includes(name));
     words.push(...others.map((name) => `${name}=${view.shows[name] ? this.shownText(name) : 0}`));
     return `#${words.join('&')}`;
   }
@@ -2093,6 +2231,18 @@ class Page {
     this.view.draw(this.player.fraction);
     this.drawTexts();
     if (this.view.shows.heat) this.showScale();
+  }
+
+  // How many bridges there are, and how many cells are not roomy; in the legend the signs for both.
+  tellRoomy(on) {
+    for (const item of document.querySelectorAll('.of-roomy')) item.hidden = !on;
+    if (!on) return;
+    const { bridges, unroomy } = this.view.findRoominess();
+    const count = unroomy.reduce((sum, is) => sum + is, 0);
+    const of = `${count} of ${countFloor(this.map)} cells ${count === 1 ? 'is' : 'are'} not roomy for ${this.replay.robots} robots`;
+    element('roomy-told').textContent = `${bridges.length} bridges; ${of}.`;
+    document.body.dataset.bridges = bridges.map((ends) => ends.join('-')).join(' ');
+    document.body.dataset.unroomy = [...unroomy.keys()].filter((cell) => unroomy[cell]).join(' ');
   }
 
   // The scale of the heat, from no robot to the most on one cell.
@@ -2211,6 +2361,7 @@ class Page {
     this.view.shows[name] = on;
     element(`show-${name}`).checked = on;
     if (name === 'heat') element('heat-scale').hidden = !on;
+    if (name === 'roomy') this.tellRoomy(on);
   }
 
   show(name, on) {
@@ -2344,6 +2495,7 @@ function keysOf(page) {
     h: toggle('heat'),
     g: toggle('goals'),
     l: toggle('lines'),
+    r: toggle('roomy'),
     j: () => {
       page.chooseHeat('stood', 100);
       page.draw();

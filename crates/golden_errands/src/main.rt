@@ -8,6 +8,7 @@
 //! - `== streams`: whether the program ends as it should where each read and each write fails in turn.
 //! - `== twoways`: whether two ways of judging traces come to one answer, on seeded worlds and damaged traces. It has
 //!   no rows.
+//! - `== maps`: what `fleet map` says of maps.
 //! - `== talk`: what is said in conversations as `fleet talk` holds them, also by readers, writers and sinks that
 //!   fail.
 //! - `== live`: what is said in the first conversation of fleets on demand, as `fleet live` keeps them, and what was
@@ -19,6 +20,7 @@
 
 mod cases;
 mod live;
+mod maps;
 mod options;
 mod run;
 mod serves;
@@ -50,6 +52,7 @@ fn tell<R: Alloc<A = Global> + Threads + Sync + Wait>(
         "serves" => serves::tell(rt, section.text, told),
         "streams" => streams::tell(rt, section.text, told),
         "twoways" => twoways::tell(rt, told, notes),
+        "maps" => maps::tell(rt.alloc(), section.text, told),
         "talk" => talk::tell(rt, section.text, told),
         _ => Ok(()),
     }

@@ -13,7 +13,7 @@ const CROWDED_SIZE = 0.6;
 class MapView extends MapGround {
   constructor(canvas, replay) {
     super(canvas, replay);
-    this.shows = { heat: false, goals: true, lines: true };
+    this.shows = { heat: false, goals: true, lines: true, roomy: false };
     this.picked = null;
     this.follows = false;
     this.faults = [];

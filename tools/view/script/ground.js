@@ -1,4 +1,8 @@
-// ---- what lies under the robots: letters, heat, grid
+// ---- what lies under the robots: letters, heat, bridges and cells that are not roomy, grid
+
+const ROOMY_STRENGTH = 0.3;
+// a bridge's line, in cells
+const BRIDGE_WIDTH = 0.14;
 
 class MapGround extends MapPlace {
   constructor(canvas, replay) {
@@ -48,10 +52,45 @@ class MapGround extends MapPlace {
     pen.imageSmoothingEnabled = false;
     this.drawCells(this.ground);
     if (this.shows.heat) this.drawHeat();
+    if (this.shows.roomy) this.drawRoomy();
     pen.strokeStyle = colours.line;
     pen.lineWidth = 1;
     pen.strokeRect(view.left, view.top, map.width * view.scale, map.height * view.scale);
     if (numbered) this.drawGrid();
+  }
+
+  // Once, when it is first asked for.
+  findRoominess() {
+    this.roominess ??= new Roominess(this.map, this.replay.robots);
+    return this.roominess;
+  }
+
+  // The cells that are not roomy for the robots, and the bridges, each as a line between its two cells.
+  drawRoomy() {
+    const { pen, view, colours } = this;
+    const { bridges, unroomy } = this.findRoominess();
+    if (this.paintedRoomy !== colours) this.paintRoomy(unroomy);
+    this.paintedRoomy = colours;
+    pen.globalAlpha = ROOMY_STRENGTH;
+    this.drawCells(this.roomyCanvas);
+    pen.globalAlpha = 1;
+    pen.strokeStyle = colours.fault;
+    pen.lineWidth = Math.max(1, view.scale * BRIDGE_WIDTH);
+    pen.beginPath();
+    for (const [lower, upper] of bridges) {
+      pen.moveTo(...this.pointOf(lower));
+      pen.lineTo(...this.pointOf(upper));
+    }
+    pen.stroke();
+  }
+
+  paintRoomy(unroomy) {
+    this.roomyCanvas = this.cellCanvas();
+    const pen = this.roomyCanvas.getContext('2d');
+    pen.fillStyle = this.colours.fault;
+    unroomy.forEach((is, cell) => {
+      if (is) pen.fillRect(cell % this.map.width, Math.floor(cell / this.map.width), 1, 1);
+    });
   }
 
   drawHeat() {

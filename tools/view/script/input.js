@@ -39,6 +39,7 @@ function keysOf(page) {
     h: toggle('heat'),
     g: toggle('goals'),
     l: toggle('lines'),
+    r: toggle('roomy'),
     j: () => {
       page.chooseHeat('stood', 100);
       page.draw();

@@ -85,6 +85,18 @@ class Page {
     if (this.view.shows.heat) this.showScale();
   }
 
+  // How many bridges there are, and how many cells are not roomy; in the legend the signs for both.
+  tellRoomy(on) {
+    for (const item of document.querySelectorAll('.of-roomy')) item.hidden = !on;
+    if (!on) return;
+    const { bridges, unroomy } = this.view.findRoominess();
+    const count = unroomy.reduce((sum, is) => sum + is, 0);
+    const of = `${count} of ${countFloor(this.map)} cells ${count === 1 ? 'is' : 'are'} not roomy for ${this.replay.robots} robots`;
+    element('roomy-told').textContent = `${bridges.length} bridges; ${of}.`;
+    document.body.dataset.bridges = bridges.map((ends) => ends.join('-')).join(' ');
+    document.body.dataset.unroomy = [...unroomy.keys()].filter((cell) => unroomy[cell]).join(' ');
+  }
+
   // The scale of the heat, from no robot to the most on one cell.
   showScale() {
     const { heat, mostHeat } = this.view;
@@ -201,6 +213,7 @@ class Page {
     this.view.shows[name] = on;
     element(`show-${name}`).checked = on;
     if (name === 'heat') element('heat-scale').hidden = !on;
+    if (name === 'roomy') this.tellRoomy(on);
   }
 
   show(name, on) {

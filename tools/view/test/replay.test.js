@@ -10,12 +10,12 @@ const test = require('node:test');
 const vm = require('node:vm');
 
 const PARTS = [
-  'read', 'graph', 'fault', 'changes', 'replay', 'bound', 'colours', 'heat', 'charts', 'events', 'list', 'marks',
+  'read', 'graph', 'roomy', 'fault', 'changes', 'replay', 'bound', 'colours', 'heat', 'charts', 'events', 'list', 'marks',
 ];
 const NAMES = [
   'Replay', 'Distances', 'mapOf', 'verdictsOf', 'traceOf', 'tracesOf', 'hasBridge', 'greatestDistance', 'findBound',
   'faultText', 'noteOf', 'robotText', 'recentArrivals', 'robotColour', 'contrastOf', 'luminanceOfHex',
-  'Heat', 'eventsOf', 'firstFrom', 'marksOf',
+  'Heat', 'Roominess', 'eventsOf', 'firstFrom', 'marksOf',
 ];
 
 function load() {
@@ -274,4 +274,60 @@ test('the slider has marks for chapters, shuts, refusals and faults', () => {
   const replay = replayOf(OPEN, [trace([robot(0), robot(8)], MIXED), second], ['legal', 'illegal 2 4']);
   const marks = page.marksOf(replay).map(({ kind, part }) => `${kind} ${part}`);
   assert.deepStrictEqual(marks, ['chapter 0.5', 'refusal 0', 'shutting 0.5', 'fault 1']);
+});
+
+test('bridges and cells that are not roomy', () => {
+  // Two rings of four cells, joined by a corridor of three with a stub of one below its middle.
+  const rings = page.mapOf(['..@@@..', '.......', '@@@.@@@']);
+  const found = (map, robots) => {
+    const { bridges, unroomy } = new page.Roominess(map, robots);
+    return [bridges.map((ends) => ends.join('-')).join(' '), [...unroomy.keys()].filter((cell) => unroomy[cell])];
+  };
+  const bridges = '8-9 9-10 10-11 10-17 11-12';
+  assert.deepStrictEqual(found(rings, 1), [bridges, []]);
+  assert.deepStrictEqual(found(rings, 4), [bridges, [17]]);
+  assert.deepStrictEqual(found(rings, 5), [bridges, [0, 1, 5, 6, 7, 8, 12, 13, 17]]);
+  assert.deepStrictEqual(found(RING, 512), ['', []]);
+});
+
+// By the definition: a search for each edge and each of its ends.
+function roominessOf(map, robots) {
+  const size = map.floor.length;
+  const near = (cell) => {
+    const column = cell % map.width;
+    const all = [cell - map.width, cell + map.width, ...(column > 0 ? [cell - 1] : []), ...(column + 1 < map.width ? [cell + 1] : [])];
+    return all.filter((other) => other >= 0 && other < size && map.floor[other]);
+  };
+  const side = (from, a, b) => {
+    const seen = new Set([from]);
+    for (const cell of seen) for (const other of near(cell)) if (!((cell === a && other === b) || (cell === b && other === a))) seen.add(other);
+    return seen;
+  };
+  const unroomy = new Set();
+  const bridges = [];
+  for (let a = 0; a < size; a += 1) {
+    for (const b of map.floor[a] ? near(a) : []) {
+      const own = side(a, a, b);
+      if (own.has(b)) continue;
+      if (a < b) bridges.push(`${a}-${b}`);
+      if (own.size < robots) for (const cell of own) unroomy.add(cell);
+    }
+  }
+  return [bridges.sort(), [...unroomy].sort((a, b) => a - b)];
+}
+
+test('bridges and cells that are not roomy, by the definition', () => {
+  let seed = 7;
+  const random = (below) => {
+    seed = (seed * 1103515245 + 12345) % 2147483648;
+    return Math.floor(seed / 65536) % below;
+  };
+  for (let trial = 0; trial < 300; trial += 1) {
+    const [height, width] = [1 + random(6), 1 + random(7)];
+    const map = page.mapOf(Array.from({ length: height }, () => Array.from({ length: width }, () => (random(3) === 0 ? '@' : '.')).join('')));
+    const robots = 1 + random(9);
+    const { bridges, unroomy } = new page.Roominess(map, robots);
+    const told = [bridges.map((ends) => ends.join('-')).sort(), [...unroomy.keys()].filter((cell) => unroomy[cell])];
+    assert.deepStrictEqual(told, roominessOf(map, robots));
+  }
 });

@@ -17,11 +17,15 @@ pub struct MapJob {
     pub cells: Option<String>,
     /// Whether to print the map without the cells that are not roomy, in place of figures.
     pub prune: bool,
+    /// Whether to print a picture.
+    pub svg: bool,
+    /// Whether to print walls that, opened, make cells roomy.
+    pub mend: bool,
     pub json: bool,
     pub map: String,
 }
 
-/// `map --robots N [--cells FILE] [--json] [--prune] MAP`.
+/// `map --robots N [--cells FILE] [--json] [--prune] [--svg] [--mend] MAP`.
 pub(crate) const MAP_WORD: Word<'static> = Word {
     name: "map",
     about: "Says what a map offers for N robots: its bridges, its dead ends, the cells that are roomy, and which promises hold",
@@ -46,6 +50,16 @@ pub(crate) const MAP_WORD: Word<'static> = Word {
             name: "prune",
             kind: Kind::Flag,
             help: "Print the map with walls in place of the cells that are not roomy, again and again until all are, and no figures",
+        },
+        Argument {
+            name: "svg",
+            kind: Kind::Flag,
+            help: "Print a picture of the map, with its bridges and the cells that are not roomy, as SVG",
+        },
+        Argument {
+            name: "mend",
+            kind: Kind::Flag,
+            help: "Print walls that, opened, make cells roomy, found by a rule of thumb, and how many cells are not roomy then",
         },
         MAP,
     ],
@@ -76,6 +90,8 @@ pub(crate) fn map_in(alloc: Global, matches: &ArgMatches<'_>) -> Result<MapJob, 
         robots,
         cells,
         prune: has_flag(matches, "prune"),
+        svg: has_flag(matches, "svg"),
+        mend: has_flag(matches, "mend"),
         json: has_flag(matches, "json"),
         map,
     })
