@@ -95,13 +95,31 @@ waiting None h = tt
 waiting (Some w) h = h
 
 robot : {A : Type 0} (x : RobotState A) → RobotFits x → IsLine (robot_data x)
-robot x h = (short x.cell h.cell, (tt, (waiting x.wait h.wait, (list errand_data ErrandFits errand x.errands h.errands,
-    (law x.arrival_law h.arrival_law, (law x.farewell_law h.farewell_law, tt))))))
+robot x h = (
+  short x.cell h.cell,
+  (
+    tt,
+    (
+      waiting x.wait h.wait,
+      (
+        list errand_data ErrandFits errand x.errands h.errands,
+        (law x.arrival_law h.arrival_law, (law x.farewell_law h.farewell_law, tt)),
+      ),
+    ),
+  ),
+)
 
 opening : {A : Type 0} (o : Opening A) → OpeningFits o → IsLine (opening_data o)
 unfolding escape_byte
-opening o h = (refl, list client_data ClientFits client o.clients h.clients, (refl, h.life,
-    (refl, short o.queue h.queue, (refl, list robot_data RobotFits robot o.robots h.robots, (refl, h.tick, tt)))))
+opening o h = (
+  refl,
+  list client_data ClientFits client o.clients h.clients,
+  (
+    refl,
+    h.life,
+    (refl, short o.queue h.queue, (refl, list robot_data RobotFits robot o.robots h.robots, (refl, h.tick, tt))),
+  ),
+)
 
 pub head-line : {A : Type 0} (n : ℕ) (o : Opening A) → Fits32 n → OpeningFits o → are_line_bytes (compact_text (head_data n o)) ≡ true
 unfolding escape_byte

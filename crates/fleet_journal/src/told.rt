@@ -92,10 +92,7 @@ fn head_told(alloc: Global, value: &Value) -> Result<(u32, Opening), TraceFault>
 }
 
 /// What a first line opens; none if it opens nothing.
-pub(crate) fn head_line_in(
-    alloc: Global,
-    line: &[u8],
-) -> Result<Option<(u32, Opening)>, AllocError>
+pub(crate) fn head_line_in(alloc: Global, line: &[u8]) -> Result<Option<(u32, Opening)>, AllocError>
     ensures some { IfOk result (λ h. IfSome h (λ h. IsHeadLine line.now h)) }
     ensures none { IfOk result (λ h. IfNone h ((h : Head Global) → IsHeadLine line.now h → ⊥)) }
 {

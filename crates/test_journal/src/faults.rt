@@ -3,10 +3,17 @@
 use fleet_journal::{JournalFault, read_journal};
 use std::alloc::Global;
 
-const NO_VERSION: &str = "{\"chapter\":3,\"opening\":{\"clients\":[[0,0,0,false]],\"life\":9,\"queue\":1,\"robots\":[[0,false,null,[],[0,0],[0,9]]],\"tick\":5}}\n";
-const FIRST_VERSION: &str = "{\"chapter\":3,\"opening\":{\"clients\":[[0,0,0,false]],\"life\":9,\"queue\":1,\"robots\":[[0,false,null,[],[0,0],[0,9]]],\"tick\":5},\"version\":1}\n";
-const CUT_ENTRY: &str = "{\"chapter\":3,\"opening\":{\"clients\":[[0,0,0,false]],\"life\":9,\"queue\":1,\"robots\":[[0,false,null,[],[0,0],[0,9]]],\"tick\":5},\"version\":2}\n[\"shut\",0,7]\n[\"shut\",1\n[\"shut\",2,7]\n";
-const BLANK_LINE: &str = "{\"chapter\":3,\"opening\":{\"clients\":[[0,0,0,false]],\"life\":9,\"queue\":1,\"robots\":[[0,false,null,[],[0,0],[0,9]]],\"tick\":5},\"version\":2}\n\n";
+const NO_VERSION: &str =
+    "{\"chapter\":3,\"opening\":{\"clients\":[[0,0,0,false]],\"life\":9,\"queue\":1,\"robots\":[[0,false,null,[],[0,0],[0,9]]],\"tick\":5}}\n";
+
+const FIRST_VERSION: &str =
+    "{\"chapter\":3,\"opening\":{\"clients\":[[0,0,0,false]],\"life\":9,\"queue\":1,\"robots\":[[0,false,null,[],[0,0],[0,9]]],\"tick\":5},\"version\":1}\n";
+
+const CUT_ENTRY: &str =
+    "{\"chapter\":3,\"opening\":{\"clients\":[[0,0,0,false]],\"life\":9,\"queue\":1,\"robots\":[[0,false,null,[],[0,0],[0,9]]],\"tick\":5},\"version\":2}\n[\"shut\",0,7]\n[\"shut\",1\n[\"shut\",2,7]\n";
+
+const BLANK_LINE: &str =
+    "{\"chapter\":3,\"opening\":{\"clients\":[[0,0,0,false]],\"life\":9,\"queue\":1,\"robots\":[[0,false,null,[],[0,0],[0,9]]],\"tick\":5},\"version\":2}\n\n";
 
 /// Why these bytes are no journal.
 fn fault_of(alloc: Global, bytes: &[u8]) -> Option<JournalFault> {
