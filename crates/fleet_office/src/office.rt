@@ -159,8 +159,9 @@ impl<N: OfficeName<A>, A: Allocator + Copy> Office<N, A> {
         ensures shown { IfOk result (λ look. (h : HallView A) × IsLawful N.rings N.start h.world h.ends h.total × Shows h.world look) }
     {
         let hall = self.hall.lock(rt);
-        hall.state.recall_laws();
-        hall.state.look_from(rt.alloc(), ticker.ticks())
+        let state = &hall.state;
+        state.recall_laws();
+        state.look_from(rt.alloc(), ticker.ticks())
     }
 }
 

@@ -34,7 +34,8 @@ impl<N: OfficeName<A>, A: Allocator + Copy> Office<N, A> {
         ensures { IfOk result (λ found. (h : HallView A) × IsLawful N.rings N.start h.world h.ends h.total × ShowsOpen h.world client found.items) }
     {
         let hall = self.hall.lock(rt);
-        hall.state.recall_laws();
-        hall.state.open_errands(rt.alloc(), client)
+        let state = &hall.state;
+        state.recall_laws();
+        state.open_errands(rt.alloc(), client)
     }
 }

@@ -17,7 +17,7 @@ new-state-requires g c =
     let w = c.args.world.core in
     let rings = g.N.OfficeName.rings in
     let total = c.add.new.self.total in
-    let apart = c.apart-core.ensures in
+    let apart = c.apart-core.ensures.core in
     let named : rings_of s.ends.items ≡ rings = ap (λ d. rings_of d.ends) c.desk.view_is ∙ c.requires.named.rings in
     let limits : s.limits ≡ w.limits = ap (λ d. d.limits) c.desk.view_is ∙ c.requires.limits in
     let range : AreInRange (length s.clients.items) w.limits = subst (AreInRange (length s.clients.items)) limits c.desk.invariant.2 in
@@ -29,7 +29,7 @@ new-state-requires g c =
     (over-unused w s.limits s.clients.items s.ends.items rings total c.desk.invariant.0 named range c.requires.unused legal count now))
 
 pub returns-clause-hall : goal.returns-clause-hall
-returns-clause-hall g c = ap (λ h. h.world) c.new-state.ensures ∙ c.apart-core.ensures
+returns-clause-hall g c = ap (λ h. h.world) c.new-state.ensures ∙ c.apart-core.ensures.core
 
 pub returns-clause-clients : goal.returns-clause-clients
 returns-clause-clients g c =
@@ -38,4 +38,4 @@ returns-clause-clients g c =
     (ap (λ d. d.clients) c.desk.view_is, all_on s.limits s.clients.items s.ends.items g.N.OfficeName.rings c.desk.invariant.0 named)
 
 pub returns-clause-ticker : goal.returns-clause-ticker
-returns-clause-ticker g c = c.new-ticker.ensures ∙ ap (λ n. record { count = n; parts = 65536 }) (c.clock-tick.ensures ∙ ap (λ (v : World g.row.A.Denot). clock v.history) c.apart-core.ensures)
+returns-clause-ticker g c = c.new-ticker.ensures ∙ ap (λ n. record { count = n; parts = 65536 }) (c.clock-tick.ensures ∙ ap (λ (v : World g.row.A.Denot). clock v.history) c.apart-core.ensures.core)
