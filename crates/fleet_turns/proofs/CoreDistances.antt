@@ -1,13 +1,12 @@
 -- A list of distances that passes its check holds the distances to the cores.
-use Rattle.std.proofs.Common.{◌≡◌, ℕ, zero, suc, ◌+◌, ◌<◌, ◌≤◌, ◌⊎◌, inl, inr, List, [], ◌∷◌, length, refl, sym, subst, ap, ◌∙◌, arith}
+use Rattle.std.proofs.Common.{◌≡◌, ℕ, zero, suc, ◌+◌, ◌≤◌, inl, inr, List, [], ◌∷◌, length, refl, sym, subst, ap, arith}
 use Rattle.std.specs.Prelude.{slice_index}
-use Rattle.fleet_grid.specs.Floor.{Floor, IsFloor, IsNeighbour, IsNeighbourIn}
-use Rattle.fleet_grid.specs.Walk.{Walks, AreJoined, IsDistance}
-use Rattle.fleet_grid.specs.declared.dir.Dir.{Dir}
+use Rattle.fleet_grid.specs.Floor.{Floor, IsFloor, IsNeighbour}
+use Rattle.fleet_grid.specs.Walk.{Walks, AreJoined}
 use Rattle.fleet_grid.proofs.Walks.{same_along}
 use Rattle.turns_law.specs.Turns.{AreAway}
 use Rattle.fleet_turns.proofs.OnFloor.{way_ends_on_floor}
-use Rattle.fleet_turns.specs.inside.Checked.{IsEven, IsOneNearer, IsAwayAt}
+use Rattle.fleet_turns.specs.inside.Checked.{IsAwayAt}
 
 long : (c : ℕ) (cs : List ℕ) → length (c ∷ cs) ≡ length cs + 1
 long c cs = grind arith

@@ -1,5 +1,5 @@
 -- What a plan of turns gives a step, and what it gets from it.
-use Rattle.std.proofs.Common.{◌≡◌, ◌≢◌, ◌↔◌, ℕ, ◌+◌, ◌<◌, ◌≤◌, ◌⊎◌, inl, inr, List, Option, Some, None, IsSome, MatchOption, length, slice_index, slice_index_or, refl, sym, subst, ap, ◌∙◌, arith, ◌==◌}
+use Rattle.std.proofs.Common.{◌≡◌, ◌↔◌, ℕ, ◌<◌, ◌⊎◌, inl, inr, List, Option, Some, None, IsSome, MatchOption, length, slice_index, refl, sym, subst, ap, ◌∙◌, arith, ◌==◌}
 use Rattle.std.specs.Prelude.{slice_set, if◌then◌else◌}
 use Rattle.std.proofs.lemmas.Bool.{cases_eq, cases_lt, false≢true}
 use Rattle.std.proofs.lemmas.List.{length-set, get_or-set_same, get_or-set_other}
@@ -15,7 +15,7 @@ use Rattle.fleet_pibt.specs.Eldest.{IsEldest}
 use Rattle.fleet_pibt.specs.Goals.{AreGoals}
 use Rattle.fleet_pibt.specs.Order.{wait_of}
 use Rattle.fleet_pibt.specs.declared.door.Door.{Door}
-use Rattle.fleet_planner.specs.Courses.{Courses, AreOn, goals_of, goal, way_to}
+use Rattle.fleet_planner.specs.Courses.{Courses, AreOn, goals_of, way_to}
 use Rattle.fleet_planner.specs.Lending.{IsRank, IsLent, goal_at}
 use Rattle.fleet_planner.specs.declared.lending.Lending.{Lending}
 use Rattle.turns_law.specs.Turns.{Turns, AreAway, AreTurns}

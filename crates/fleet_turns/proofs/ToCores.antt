@@ -1,17 +1,17 @@
 -- The way to a core, read from a list.
-use Rattle.std.proofs.Common.{◌≡◌, ℕ, inl, inr, List, Option, Some, None, refl, sym, subst, ap, ◌∙◌, ◌==◌, true, false}
-use Rattle.std.specs.Prelude.{◌↔◌, slice_index, if◌then◌else◌}
+use Rattle.std.proofs.Common.{◌≡◌, ℕ, inl, inr, List, Option, Some, None, refl, sym, subst, ap, ◌∙◌}
+use Rattle.std.specs.Prelude.{◌↔◌, slice_index}
 use Rattle.std.proofs.lemmas.Bool.Decides.{eqb_tells}
-use Rattle.fleet_grid.specs.Floor.{Floor, IsFloor, IsNeighbour, IsNeighbourIn}
+use Rattle.fleet_grid.specs.Floor.{Floor, IsFloor, IsNeighbour}
 use Rattle.fleet_grid.specs.Ways.{IsWay, IsLess, AreNearer}
-use Rattle.fleet_grid.specs.Walk.{Walks, AreApart, IsDistance}
+use Rattle.fleet_grid.specs.Walk.{IsDistance}
 use Rattle.fleet_grid.specs.Distance.{distance}
 use Rattle.fleet_grid.proofs.Walks.{same_along}
 use Rattle.fleet_grid.proofs.Shortest.{is_distance, apart_is}
-use Rattle.fleet_planner.specs.Courses.{Courses, goal, way_to}
+use Rattle.fleet_planner.specs.Courses.{Courses, goal}
 use Rattle.turns_law.specs.Turns.{AreAway}
 use Rattle.fleet_turns.specs.inside.Cores.{way_to_core}
-use Rattle.fleet_turns.specs.inside.Lent.{goal_lent, way_lent}
+use Rattle.fleet_turns.specs.inside.Lent.{goal_lent}
 
 module _ (m : Floor) (core away : List ℕ) (are : AreAway m core away) (goal_ : ℕ) (own : slice_index core goal_ ≡ goal_) where
   -- it is the distance on the map

@@ -1,6 +1,6 @@
 //! The planner of turns.
 
-ghost use Rattle.std.specs.Prelude.{◌≡◌, ◌≤◌, length, map, IfOk, OnOk, OnErr};
+ghost use Rattle.std.specs.Prelude.{◌≡◌, ◌≤◌, length, map, slice_index, IfOk, OnOk, OnErr};
 ghost use Rattle.fleet_field.specs.Store.{Keeps};
 ghost use Rattle.fleet_grid.specs.Step.{IsPlacement};
 ghost use Rattle.fleet_pibt.specs.Door.{IsSteppedWithDoor};
@@ -14,6 +14,7 @@ ghost use Rattle.fleet_turns.specs.inside.Lent.{goal_lent, way_lent, AreLent};
 use crate::distances::distances;
 use crate::guide::TurnGuide;
 use crate::tables::{nothing, put};
+use crate::to_core::read;
 use fleet_bridge::{Rooms, rooms_of};
 use fleet_field::FieldCache;
 use fleet_grid::Grid;
@@ -174,6 +175,13 @@ impl<A: Allocator + Copy> TurnPlanner<A> {
         ensures { result.now ≡ goals_of self.now.courses }
     {
         &self.goals
+    }
+
+    /// The greatest number of robots for which all cells of the part of a floor cell are served.
+    pub fn capacity(&self, cell: u32) -> u32
+        ensures { result ≡ slice_index self.now.turns.capacity (slice_index self.now.turns.core cell) }
+    {
+        read(&self.capacity, read(&self.guide.core, cell))
     }
 
     /// Gives the robots of these changes their new goals, as `Courses::turn` does.

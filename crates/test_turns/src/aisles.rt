@@ -136,5 +136,7 @@ fn blind_aisles_are_reached(rt: HostRuntime) {
     let alloc = rt.alloc();
     let grid = grid_of(&rt, alloc, 5, 5, MAP);
     let mut planner = planner_of(&rt, alloc, &grid);
+    // Of the 18 cells all but those of two aisles.
+    assert!(rt; planner.capacity(0) == 14);
     run(&rt, alloc, &mut planner, &grid);
 }

@@ -1,6 +1,6 @@
 -- What the check of the distances to the cores tests.
 use Rattle.std.specs.Prelude.{◌≡◌, ℕ, ◌+◌, ◌≤◌, ◌⊎◌, List, slice_index}
-use Rattle.fleet_grid.specs.Floor.{Floor, IsFloor, IsNeighbour, IsNeighbourIn}
+use Rattle.fleet_grid.specs.Floor.{Floor, IsNeighbourIn}
 use Rattle.fleet_grid.specs.declared.dir.Dir.{Dir}
 
 -- neighbours that way have the same core, and are nearer by one at most

@@ -1,5 +1,5 @@
 -- The way to a core, by lists of cells.
-use Rattle.std.specs.Prelude.{◌≡◌, ℕ, ◌==◌, List, Option, Some, None, if◌then◌else◌, slice_index}
+use Rattle.std.specs.Prelude.{ℕ, ◌==◌, List, Option, Some, None, if◌then◌else◌, slice_index}
 
 -- how far the cell is from this core, if it is the core of the cell's part
 abbrev pub way_to_core : (core away : List ℕ) → (goal cell : ℕ) → Option ℕ

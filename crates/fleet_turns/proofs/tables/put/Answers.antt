@@ -1,6 +1,5 @@
-use Rattle.std.proofs.Common.{◌≡◌, ℕ, ◌+◌, ◌<◌, ◌≤◌, None, length, sym, refl, ◌∙◌, arith}
+use Rattle.std.proofs.Common.{◌+◌, None, sym, refl, ◌∙◌, arith}
 use Rattle.std.proofs.lemmas.List.{length-set}
-use Rattle.fleet_planner.specs.declared.turns.GoalChange.{GoalChange}
 use Rattle.fleet_turns.proofs.Puts.{turned_next, turned_all}
 use Rattle.fleet_turns.proofs.tables.put.Goals as goal
 

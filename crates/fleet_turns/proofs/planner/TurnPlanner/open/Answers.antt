@@ -1,5 +1,5 @@
 -- A new planner: its rooms and distances passed their checks, and its tables are of the map's size.
-use Rattle.std.proofs.Common.{◌≡◌, ℕ, List, Option, None, length, replicate, ap, subst, ◌∙◌}
+use Rattle.std.proofs.Common.{◌≡◌, ℕ, List, Option, None, length, ap, subst, ◌∙◌}
 use Rattle.std.specs.Prelude.{IfSome}
 use Rattle.std.proofs.lemmas.List.{length-replicate}
 use Rattle.fleet_bridge.specs.Rooms.{AreRooms}

@@ -1,5 +1,5 @@
 -- The step of a tick of turns: what it is given, and what it makes.
-use Rattle.std.proofs.Common.{◌≡◌, ℕ, ◌<◌, List, Option, Some, length, vec_len, refl, sym, ap, subst, ◌∙◌, arith}
+use Rattle.std.proofs.Common.{◌≡◌, length, vec_len, refl, sym, subst, ◌∙◌, arith}
 use Rattle.std.proofs.lemmas.Grind.{common_steps}
 use Rattle.fleet_planner.specs.Courses.{goals_of}
 use Rattle.fleet_planner.specs.Lending.{IsLent}
