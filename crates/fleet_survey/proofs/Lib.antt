@@ -6,3 +6,7 @@ pub mod Prunes
 pub mod Opens
 pub mod Pieces
 pub mod Marks
+pub mod CellTexts
+pub mod Taken
+pub mod DeadEnds
+pub mod Told

@@ -1,8 +1,10 @@
 -- Cells marked one after another.
-use Rattle.std.proofs.Common.{◌≡◌, ◌∙◌, ◌↔◌, ℕ, ◌+◌, ◌<◌, inl, inr, Bool, true, false, List, [], ◌∷◌, ◌++◌, length, get_or, sym, ap, subst, arith}
+use Rattle.std.proofs.Common.{◌≡◌, ◌∙◌, ◌↔◌, ℕ, ◌+◌, ◌<◌, ◌≤◌, inl, inr, Bool, true, false, cond, count_by, List, [], ◌∷◌, ◌++◌, length, get_or, sym, ap, subst, arith, get_or-set_other, get_or-set_same}
+use Rattle.std.specs.Prelude.{slice_set}
 use Rattle.std.proofs.Math.Seq.{get_or-append_seam}
 use Rattle.std.proofs.lemmas.Bool.{cases_lt}
 use Rattle.std.proofs.lemmas.List.{get_or_append_left, get_or_past, length-append}
+use Rattle.std.proofs.lemmas.List.Sums.{sum_by-set}
 use Rattle.std.proofs.lemmas.Option.{unwrap_or-slice_get}
 use Rattle.fleet_roomy.specs.Unroomy.{has}
 
@@ -10,7 +12,7 @@ use Rattle.fleet_roomy.specs.Unroomy.{has}
 abbrev pub AreMarkedBelow : (In : ℕ → Type 0) → List Bool → ℕ → Type 0
 AreMarkedBelow In marks end = (c : ℕ) → (has marks c ≡ true) ↔ (c < end × In c)
 
-has_get : (xs : List Bool) (c : ℕ) → has xs c ≡ get_or xs c false
+pub has_get : (xs : List Bool) (c : ℕ) → has xs c ≡ get_or xs c false
 has_get xs c = unwrap_or-slice_get xs c false
 
 pub none_marked : (In : ℕ → Type 0) (marks : List Bool) → marks ≡ [] → AreMarkedBelow In marks 0
@@ -44,3 +46,31 @@ one_marked In marks end b more size is marked this c = elim (cases_lt c end) [
         )
   ]
 ]
+
+pub set_other : (xs : List Bool) (c x : ℕ) (b : Bool) → (c ≡ x → ⊥) → has (slice_set xs x b) c ≡ has xs c
+set_other xs c x b other = has_get (slice_set xs x b) c ∙ (get_or-set_other xs x c b false other ∙ sym (has_get xs c))
+
+pub set_here : (xs : List Bool) (x : ℕ) (b : Bool) → x < length xs → has (slice_set xs x b) x ≡ b
+set_here xs x b inside = has_get (slice_set xs x b) x ∙ get_or-set_same xs x b false inside
+
+pub has_inside : (xs : List Bool) (c : ℕ) → has xs c ≡ true → c < length xs
+has_inside xs c is = elim (cases_lt c (length xs)) [
+  | inl less ↦ less
+  | inr past ↦ absurd (let gone : false ≡ true = sym (get_or_past xs c false past) ∙ (sym (has_get xs c) ∙ is) in cc gone)
+]
+
+if_one : (b : Bool) → b ≡ true → 1 ≤ cond b 1 0
+if_one true is = omega arith
+if_one false is = absurd cc
+
+at_most_one : (b : Bool) → cond b 1 0 ≤ 1
+at_most_one true = omega arith
+at_most_one false = omega arith
+
+-- one mark less
+pub count_less : (xs : List Bool) (x : ℕ) → has xs x ≡ true → count_by (λ b. b) (slice_set xs x false) + 1 ≡ count_by (λ b. b) xs
+count_less xs x is =
+    let e : count_by (λ b. b) (slice_set xs x false) + cond (get_or xs x false) 1 0 ≡ count_by (λ b. b) xs + 0 = sum_by-set (λ (b : Bool). cond b 1 0) xs x false false (has_inside xs x is) in
+    let one = if_one (get_or xs x false) (sym (has_get xs x) ∙ is) in
+    let most = at_most_one (get_or xs x false) in
+    omega (arith, e, one, most)

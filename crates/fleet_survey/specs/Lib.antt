@@ -1,3 +1,7 @@
+pub mod Answer
+pub mod Cells
+pub mod DeadEnds
+pub mod Taken
 pub mod Survey
 pub mod Pruned
 pub mod Peeled
@@ -5,3 +9,4 @@ pub mod Mended
 pub mod Texts
 pub mod Picture
 pub mod MapText
+pub mod Json

@@ -7,6 +7,7 @@ use Rattle.fleet_grid.specs.Walk.{IsBridgeless, IsRoomy}
 use Rattle.fleet_bridge.specs.Bridges.{AreBridges}
 use Rattle.fleet_bridge.specs.Roominess.{AreRoomyFor}
 use Rattle.fleet_roomy.specs.Unroomy.{IsRoomyCell, IsUnroomyCell}
+use Rattle.fleet_survey.specs.DeadEnds.{AreDeadEnds}
 use Rattle.fleet_survey.specs.declared.standing.Standing.{Standing}
 use Rattle.fleet_survey.specs.declared.standing.Standing.TheVariants.{Bridgeless, AllRoomy, SomeRoomy, NoneRoomy}
 use Rattle.fleet_survey.specs.declared.survey.Survey.{Survey}
@@ -46,10 +47,13 @@ IsStandingBy bridges roomy unroomy NoneRoomy = roomy ≡ 0
 -- what is told of a map for n robots
 pub record IsSurvey (m : Floor) (n : ℕ) (s : Survey) : Type 0 where
   pub robots : s.robots ≡ n
+  pub height : s.height ≡ m.height
+  pub width : s.width ≡ m.width
   pub floor : s.floor ≡ floor_count m
   pub edges : s.edges ≡ edge_count m
   pub bridges : AreBridges (IsNeighbour m) s.bridges.items
   pub roomy : AreCells (IsRoomyCell m n) s.roomy.items
   pub unroomy : AreCells (IsUnroomyCell m n) s.unroomy.items
+  pub ends : AreDeadEnds m (IsUnroomyCell m n) (IsRoomyCell m n) s.ends.items
   pub most : AreRoomyFor m s.most.items
   pub standing : IsStanding m n s.standing

@@ -1,6 +1,13 @@
 //! Dead ends: cells that are not roomy and hang together. Each is a side of a bridge, and the cell beyond that bridge is
 //! its mouth; a part of the map that has no roomy cell is one without a mouth.
 
+ghost use Rattle.std.specs.Prelude.{◌≡◌, ℕ, IfOk, OnOk, false, true};
+ghost use Rattle.std.specs.List.{Contains};
+ghost use Rattle.fleet_grid.specs.Floor.{IsNeighbour, IsNeighbourIn};
+ghost use Rattle.fleet_roomy.specs.Unroomy.{has};
+ghost use Rattle.fleet_survey.specs.DeadEnds.{AreDeadEnds, IsFree, IsMarked, IsMouth};
+ghost use Rattle.fleet_survey.specs.Taken.{AreAllTaken, AreFound, IsFound, IsTaken, TakesAround, TakesIn};
+
 use crate::chosen::is_roomy;
 use fleet_grid::{Dir, Grid};
 use fleet_roomy::UnroomyCells;
@@ -15,20 +22,45 @@ pub struct DeadEnd {
     pub cells: Vec<u32>,
 }
 
-/// Whether the cell is marked.
-fn is_left(left: &Vec<bool>, cell: u32) -> bool {
-    let at = cell as usize;
-    at < left.len() && left[at]
+/// Whether the cell is left.
+fn is_left(left: &Vec<bool>, cell: u32) -> bool
+    ensures { result ≡ has left.now.items cell }
+{
+    match left.get(cell as usize) {
+        Some(is_one) => *is_one,
+        None => false,
+    }
 }
 
-/// Takes a cell that is left.
-fn take(left: &mut Vec<bool>, cells: &mut Vec<u32>, cell: u32) -> Result<(), AllocError> {
-    let at = cell as usize;
-    if at < left.len() && left[at] {
-        left[at] = false;
+/// Takes a cell, if it is left.
+#[tactic(auto, using(crate::proofs::Taken::is_taken, crate::proofs::Taken::not_taken))]
+fn take(left: &mut Vec<bool>, cells: &mut Vec<u32>, cell: u32) -> Result<(), AllocError>
+    ensures { OnOk result (IsTaken cell left.old.items left.new.items cells.old.items cells.new.items) }
+{
+    if is_left(left, cell) {
+        let at = cell as usize;
+        if at < left.len() {
+            left[at] = false;
+        }
         cells.push(cell)?;
     }
     Ok(())
+}
+
+/// Takes the neighbour of a cell in a direction, if it is left.
+fn take_in(
+    grid: &Grid,
+    left: &mut Vec<bool>,
+    cells: &mut Vec<u32>,
+    cell: u32,
+    dir: Dir,
+) -> Result<(), AllocError>
+    ensures { OnOk result (TakesIn grid.now dir cell left.old.items left.new.items cells.old.items cells.new.items) }
+{
+    match grid.neighbour(cell, dir) {
+        Some(next) => take(left, cells, next),
+        None => Ok(()),
+    }
 }
 
 /// Takes the neighbours of a cell that are left.
@@ -37,13 +69,13 @@ fn take_around(
     left: &mut Vec<bool>,
     cells: &mut Vec<u32>,
     cell: u32,
-) -> Result<(), AllocError> {
-    for dir in Dir::ALL {
-        if let Some(next) = grid.neighbour(cell, dir) {
-            take(left, cells, next)?;
-        }
-    }
-    Ok(())
+) -> Result<(), AllocError>
+    ensures { OnOk result (TakesAround grid.now cell left.old.items left.new.items cells.old.items cells.new.items) }
+{
+    take_in(grid, left, cells, cell, Dir::North)?;
+    take_in(grid, left, cells, cell, Dir::East)?;
+    take_in(grid, left, cells, cell, Dir::South)?;
+    take_in(grid, left, cells, cell, Dir::West)
 }
 
 /// Takes all cells that hang together with one.
@@ -52,39 +84,97 @@ pub(crate) fn take_all(
     grid: &Grid,
     left: &mut Vec<bool>,
     first: u32,
-) -> Result<Vec<u32>, AllocError> {
+) -> Result<Vec<u32>, AllocError>
+    ensures { IfOk result (λ cells. AreAllTaken grid.now first left.old.items left.new.items cells.items) }
+{
     let mut cells = Vec::new(alloc);
     take(left, &mut cells, first)?;
-    for place in 0..grid.cell_count() as usize {
-        if place >= cells.len() {
-            break;
-        }
+    let mut place = 0usize;
+    while place < cells.len() {
         let cell = cells[place];
         take_around(grid, left, &mut cells, cell)?;
+        place += 1;
     }
     Ok(cells)
 }
 
+/// The roomy neighbour of a cell in a direction.
+fn roomy_in(grid: &Grid, unroomy: &UnroomyCells, cell: u32, dir: Dir) -> Option<u32>
+    ensures { IsFound (λ d. IsNeighbourIn grid.now dir cell d × IsFree grid.now unroomy.now.marks.items d) result }
+{
+    match grid.neighbour(cell, dir) {
+        Some(next) => {
+            if is_roomy(grid, unroomy, next) {
+                Some(next)
+            } else {
+                None
+            }
+        }
+        None => None,
+    }
+}
+
 /// The first roomy neighbour of a cell.
-fn roomy_beside(grid: &Grid, unroomy: &UnroomyCells, cell: u32) -> Option<u32> {
-    for dir in Dir::ALL {
-        if let Some(next) = grid.neighbour(cell, dir)
-            && is_roomy(grid, unroomy, next)
-        {
-            return Some(next);
+#[tactic(auto, using(crate::proofs::Taken::found_beside))]
+fn roomy_beside(grid: &Grid, unroomy: &UnroomyCells, cell: u32) -> Option<u32>
+    ensures { IsFound (λ d. IsNeighbour grid.now cell d × IsFree grid.now unroomy.now.marks.items d) result }
+{
+    let north = roomy_in(grid, unroomy, cell, Dir::North);
+    let east = roomy_in(grid, unroomy, cell, Dir::East);
+    let south = roomy_in(grid, unroomy, cell, Dir::South);
+    let west = roomy_in(grid, unroomy, cell, Dir::West);
+    north.or(east).or(south).or(west)
+}
+
+/// The first roomy cell next to one of the cells.
+#[tactic(auto, using(crate::proofs::Taken::mouth_found))]
+fn mouth_of(grid: &Grid, unroomy: &UnroomyCells, cells: &[u32]) -> Option<u32>
+    ensures { IsMouth grid.now (IsFree grid.now unroomy.now.marks.items) cells.now result }
+{
+    for place in 0..cells.len() {
+        if let Some(mouth) = roomy_beside(grid, unroomy, cells[place]) {
+            return Some(mouth);
         }
     }
     None
 }
 
-/// The first roomy cell next to one of the cells.
-fn mouth_of(grid: &Grid, unroomy: &UnroomyCells, cells: &[u32]) -> Option<u32> {
-    for cell in cells {
-        if let Some(mouth) = roomy_beside(grid, unroomy, *cell) {
-            return Some(mouth);
-        }
+/// Takes the dead end of a cell that is left.
+fn take_end(
+    alloc: Global,
+    grid: &Grid,
+    unroomy: &UnroomyCells,
+    left: &mut Vec<bool>,
+    first: u32,
+) -> Result<DeadEnd, AllocError>
+    ensures cells { IfOk result (λ e. AreAllTaken grid.now first left.old.items left.new.items e.cells.items) }
+    ensures mouth { IfOk result (λ e. IsMouth grid.now (IsFree grid.now unroomy.now.marks.items) e.cells.items e.mouth) }
+{
+    let cells = take_all(alloc, grid, left, first)?;
+    let mouth = mouth_of(grid, unroomy, &cells);
+    Ok(DeadEnd { mouth, cells })
+}
+
+/// Takes the dead end of a cell, if the cell is left.
+fn push_end(
+    alloc: Global,
+    grid: &Grid,
+    unroomy: &UnroomyCells,
+    left: &mut Vec<bool>,
+    ends: &mut Vec<DeadEnd>,
+    cell: u32,
+) -> Result<(), AllocError>
+    requires { AreFound grid.now unroomy.now.marks.items left.old.items ends.old.items }
+    ensures found { OnOk result (AreFound grid.now unroomy.now.marks.items left.new.items ends.new.items) }
+    ensures gone { OnOk result (has left.new.items cell ≡ false) }
+    ensures still { OnOk result ((c : ℕ) → has left.old.items c ≡ false → has left.new.items c ≡ false) }
+{
+    if !is_left(left, cell) {
+        return Ok(());
     }
-    None
+    let end = take_end(alloc, grid, unroomy, left, cell)?;
+    ends.push(end)?;
+    Ok(())
 }
 
 /// The dead ends, by their lowest cells. `cells` has the unroomy cells in their order.
@@ -93,15 +183,14 @@ pub(crate) fn dead_ends(
     grid: &Grid,
     unroomy: &UnroomyCells,
     cells: &[u32],
-) -> Result<Vec<DeadEnd>, AllocError> {
+) -> Result<Vec<DeadEnd>, AllocError>
+    requires { (c : ℕ) → IsMarked unroomy.now.marks.items c → Contains cells.now c }
+    ensures { IfOk result (λ ends. AreDeadEnds grid.now (IsMarked unroomy.now.marks.items) (IsFree grid.now unroomy.now.marks.items) ends.items) }
+{
     let mut left = Vec::from_slice(alloc, &unroomy.marks)?;
     let mut ends = Vec::new(alloc);
-    for cell in cells {
-        if is_left(&left, *cell) {
-            let cells = take_all(alloc, grid, &mut left, *cell)?;
-            let mouth = mouth_of(grid, unroomy, &cells);
-            ends.push(DeadEnd { mouth, cells })?;
-        }
+    for place in 0..cells.len() {
+        push_end(alloc, grid, unroomy, &mut left, &mut ends, cells[place])?;
     }
     Ok(ends)
 }

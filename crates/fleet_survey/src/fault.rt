@@ -12,6 +12,11 @@ pub enum CellsFault {
 }
 
 impl From<AllocError> for CellsFault {
+    ghost use Rattle.std.specs.Prelude.{◌≡◌};
+    ghost use Rattle.fleet_survey.specs.declared.fault.CellsFault.TheVariants.{NoMemory};
+
+    ghost from_gives = { λ _ e. e ≡ NoMemory };
+
     fn from(_error: AllocError) -> CellsFault {
         CellsFault::NoMemory
     }
@@ -28,16 +33,12 @@ pub enum SurveyFault {
 }
 
 impl From<AllocError> for SurveyFault {
+    ghost use Rattle.std.specs.Prelude.{◌≡◌};
+    ghost use Rattle.fleet_survey.specs.declared.fault.SurveyFault.TheVariants.{NoMemory};
+
+    ghost from_gives = { λ _ e. e ≡ NoMemory };
+
     fn from(_error: AllocError) -> SurveyFault {
         SurveyFault::NoMemory
-    }
-}
-
-impl From<CellsFault> for SurveyFault {
-    fn from(fault: CellsFault) -> SurveyFault {
-        match fault {
-            CellsFault::Line(line) => SurveyFault::Cells(line),
-            CellsFault::NoMemory => SurveyFault::NoMemory,
-        }
     }
 }

@@ -42,7 +42,7 @@ fn tell_row(alloc: Global, block: Block<'_>, told: &mut Vec<u8>) -> Result<(), A
     told.extend_from_slice(block.name.as_bytes())?;
     told.push(b'\n')?;
     told.extend_from_slice(&said.output)?;
-    told.extend_from_slice(&said.complaint)?;
+    told.extend_from_slice(said.complaint.as_bytes())?;
     told.extend_from_slice(end.as_bytes())
 }
 

@@ -1,0 +1,69 @@
+-- A survey as a JSON object.
+use Rattle.std.specs.Prelude.{ℕ, ◌==◌, List, [], ◌∷◌, ◌++◌, Option, None, Some, codes, decimal, length, if◌then◌else◌}
+use Rattle.std.specs.List.{flat_map}
+use Rattle.fleet_survey.specs.declared.ends.DeadEnd.{DeadEnd}
+use Rattle.fleet_survey.specs.declared.listed.Listed.{Listed}
+use Rattle.fleet_survey.specs.declared.standing.Standing.{Standing}
+use Rattle.fleet_survey.specs.declared.standing.Standing.TheVariants.{Bridgeless, AllRoomy, SomeRoomy, NoneRoomy}
+use Rattle.fleet_survey.specs.declared.survey.Survey.{Survey}
+
+-- ---- lists
+
+abbrev pub comma_and : {X : Type 0} → (X → List ℕ) → X → List ℕ
+comma_and text x = codes "," ++ text x
+
+-- the texts, with commas between
+abbrev pub commas : {X : Type 0} → (X → List ℕ) → List X → List ℕ
+commas text [] = []
+commas text (x ∷ xs) = text x ++ flat_map (comma_and text) xs
+
+abbrev pub numbers_json : List ℕ → List ℕ
+numbers_json numbers = codes "[" ++ (commas decimal numbers ++ codes "]")
+
+-- ---- the parts of a survey
+
+abbrev pub sizes_json : Survey → List ℕ
+sizes_json s = (codes "\"height\":" ++ (decimal s.height ++ (codes ",\"width\":" ++ (decimal s.width ++ codes ","))))
+    ++ ((codes "\"floor\":" ++ (decimal s.floor ++ (codes ",\"edges\":" ++ (decimal s.edges ++ codes ","))))
+    ++ ((codes "\"robots\":" ++ (decimal s.robots ++ (codes ",\"roomy\":" ++ (decimal (length s.roomy.items) ++ codes ","))))
+    ++ (codes "\"not_roomy\":" ++ (decimal (length s.unroomy.items) ++ codes ","))))
+
+abbrev pub bridge_json : ℕ × ℕ → List ℕ
+bridge_json edge = codes "[" ++ (decimal edge.0 ++ (codes "," ++ (decimal edge.1 ++ codes "]")))
+
+abbrev pub bridges_json : List (ℕ × ℕ) → List ℕ
+bridges_json bridges = codes "\"bridges\":[" ++ (commas bridge_json bridges ++ codes "],")
+
+abbrev pub mouth_json : Option ℕ → List ℕ
+mouth_json None = codes "null"
+mouth_json (Some mouth) = decimal mouth
+
+-- the mouth and the size of a dead end
+abbrev pub end_begin : Option ℕ → ℕ → List ℕ
+end_begin mouth size = codes "{\"mouth\":" ++ (mouth_json mouth ++ (codes ",\"size\":" ++ (decimal size ++ codes ",\"cells\":")))
+
+abbrev pub end_json : DeadEnd → List ℕ
+end_json e = end_begin e.mouth (length e.cells.items) ++ (numbers_json e.cells.items ++ codes "}")
+
+abbrev pub ends_json : List DeadEnd → List ℕ
+ends_json ends = codes "\"dead_ends\":[" ++ (commas end_json ends ++ codes "],")
+
+-- 2^32 - 1 stands for every number of robots
+abbrev pub roomy_for_json : ℕ → List ℕ
+roomy_for_json n = if n == 4294967295 then codes "\"cells_roomy_for\":null," else codes "\"cells_roomy_for\":" ++ (decimal n ++ codes ",")
+
+abbrev pub listed_json : Option Listed → List ℕ
+listed_json None = []
+listed_json (Some l) = (codes "\"cells\":" ++ (decimal l.count ++ codes ",")) ++ roomy_for_json l.roomy_for
+
+abbrev pub promised : Standing → List ℕ
+promised Bridgeless = codes "bridgeless"
+promised AllRoomy = codes "all_roomy"
+promised SomeRoomy = codes "some_roomy"
+promised NoneRoomy = codes "none_roomy"
+
+abbrev pub promises_json : Standing → List ℕ
+promises_json standing = codes "\"promises\":\"" ++ (promised standing ++ codes "\"}\n")
+
+abbrev pub survey_json : Survey → Option Listed → List ℕ
+survey_json s listed = codes "{" ++ (sizes_json s ++ (bridges_json s.bridges.items ++ (ends_json s.ends.items ++ (listed_json listed ++ promises_json s.standing))))
