@@ -1,7 +1,12 @@
 -- What is refused for one reason by a part is refused for it by the whole.
+use Rattle.std.proofs.Common.{◌≡◌, ◌↔◌, Bool, true, false, subst, sym}
 use Rattle.std.specs.Prelude.{ℕ, List}
+use Rattle.std.proofs.lemmas.Bool.{both_ways}
 use Rattle.std.specs.declared.alloc.Global.{Global}
 use Rattle.fleet_grid.specs.Floor.{Floor}
+use Rattle.fleet_bridge.specs.Roominess.{AreRoomyFor}
+use Rattle.fleet_bound.specs.Roomy.{AreOpenRoomy}
+use Rattle.fleet_core.specs.Core.{World}
 use Rattle.fleet_trace.specs.Trace.{Trace}
 use Rattle.fleet_trace.specs.Reads.{Tells}
 use Rattle.fleet_c.specs.declared.refusal.Refusal.{Refusal}
@@ -54,3 +59,10 @@ from-text-roomily bytes text robots setup m sized reads (refused.Map fault) r = 
 from-text-roomily bytes text robots setup m sized reads (refused.Trace fault) r = (sized, (m, reads, r))
 from-text-roomily bytes text robots setup m sized reads (refused.Chapter fault) r = (sized, (m, reads, r))
 from-text-roomily bytes text robots setup m sized reads refused.NoRoom r = (sized, (m, reads, r))
+
+-- a world of which it is known that an unfinished errand goes to a cell that is not roomy
+pub not-roomy : {A : Type 0} (m : Floor) (w : World A) (most seen : List ℕ) (b : Bool) → w.floor ≡ m → AreRoomyFor m most → seen ≡ most → (AreRoomyFor w.floor seen → (b ≡ true) ↔ AreOpenRoomy w.floor w.history) → b ≡ false → AreOpenRoomy m w.history → ⊥
+not-roomy m w most seen b floor known same says off roomy =
+    let at : AreRoomyFor w.floor seen = subst (λ (x : Floor). AreRoomyFor x seen) (sym floor) (subst (AreRoomyFor m) (sym same) known) in
+    let on : b ≡ true = (says at).1 (subst (λ (x : Floor). AreOpenRoomy x w.history) (sym floor) roomy) in
+    both_ways b off on
