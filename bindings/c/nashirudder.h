@@ -108,6 +108,7 @@ typedef NASHIRUDDER_ENUM(nashirudder_code) {
     NASHIRUDDER_WRONG_LENGTH = 15,       /* the list has not the length that is asked for */
     NASHIRUDDER_NULL_POINTER = 16,       /* a pointer is null */
     NASHIRUDDER_BAD_ORDER = 17,          /* there is no kind of orders of this number */
+    NASHIRUDDER_NO_ROOM = 18,            /* the cell is not roomy for the fleet's robots (nashirudder_open_roomy) */
 
     /* a map's first fault; a nashirudder_fault has the numbers */
     NASHIRUDDER_MAP_HEADER = 20,         /* the line of the head, `first`, is missing or not in its form */
@@ -212,6 +213,7 @@ static inline const char *nashirudder_code_name(uint32_t code) {
     case NASHIRUDDER_WRONG_LENGTH: return "wrong-length";
     case NASHIRUDDER_NULL_POINTER: return "null-pointer";
     case NASHIRUDDER_BAD_ORDER: return "bad-order";
+    case NASHIRUDDER_NO_ROOM: return "no-room";
     case NASHIRUDDER_MAP_HEADER: return "map-header";
     case NASHIRUDDER_MAP_SIZE: return "map-size";
     case NASHIRUDDER_MAP_ROW: return "map-row";
@@ -511,6 +513,22 @@ NASHIRUDDER_MUST_USE nashirudder_code nashirudder_reopen(const uint8_t *map, siz
                           nashirudder_fleet *fleet, nashirudder_fault *fault);
 
 /*
+** The same two, of a fleet that takes no errand to a floor cell that is not roomy for its robots. A cell is roomy if each side
+** of each bridge that has the cell has at least as many cells as the fleet has robots; an errand to another one may block all
+** robots for ever, and where there is none, every wait is below a bound, on every map (docs/PROMISES.md). Such an order is
+** refused with NASHIRUDDER_NO_ROOM before it is taken: it has no number and no verdict. All else is as by nashirudder_open and
+** nashirudder_reopen. nashirudder_map_unroomy says which cells these are.
+**
+** Refused as nashirudder_open and nashirudder_reopen; a fleet does not go on, with NASHIRUDDER_NO_ROOM, if an unfinished errand
+** of the chapter goes to such a cell.
+*/
+NASHIRUDDER_MUST_USE nashirudder_code nashirudder_open_roomy(const uint8_t *map, size_t map_length, const nashirudder_robot *robots, size_t robots_length,
+                          const nashirudder_setup *setup, nashirudder_fleet *fleet, nashirudder_fault *fault);
+NASHIRUDDER_MUST_USE nashirudder_code nashirudder_reopen_roomy(const uint8_t *map, size_t map_length, const uint8_t *text, size_t text_length,
+                          const nashirudder_robot *robots, size_t robots_length, const nashirudder_setup *setup,
+                          nashirudder_fleet *fleet, nashirudder_fault *fault);
+
+/*
 ** Closes a handle: frees what an open one owns. A closed one stays closed.
 */
 void nashirudder_close(nashirudder_fleet *fleet);
@@ -520,8 +538,8 @@ void nashirudder_close(nashirudder_fleet *fleet);
 /*
 ** A client orders a robot to a cell. The order is taken and judged at once, and `judgement` says how.
 **
-** Refused: NASHIRUDDER_NOT_OPEN, NASHIRUDDER_NO_CLIENT, NASHIRUDDER_MAILBOX_FULL, NASHIRUDDER_CHAPTER_FULL,
-** NASHIRUDDER_NO_MEMORY.
+** Refused: NASHIRUDDER_NOT_OPEN, NASHIRUDDER_NO_CLIENT, of a fleet that was opened so NASHIRUDDER_NO_ROOM (nashirudder_open_roomy),
+** NASHIRUDDER_MAILBOX_FULL, NASHIRUDDER_CHAPTER_FULL, NASHIRUDDER_NO_MEMORY.
 */
 NASHIRUDDER_MUST_USE nashirudder_code nashirudder_go(nashirudder_fleet *fleet, uint32_t client, uint32_t robot, uint32_t cell,
                         nashirudder_judgement *judgement);
@@ -837,6 +855,17 @@ NASHIRUDDER_MUST_USE nashirudder_code nashirudder_map_first_bridge(nashirudder_m
 NASHIRUDDER_MUST_USE nashirudder_code nashirudder_map_distances(nashirudder_map *map, uint32_t goal, uint32_t *distances,
                                size_t distances_length);
 
+/*
+** The floor cells that are not roomy for this many robots, in their order: errands there may block a fleet of them for ever
+** (nashirudder_open_roomy). `count` is how many these are, and the places after them stay as they were. Where the list has fewer
+** places only `count` is told, and the call answers NASHIRUDDER_WRONG_LENGTH. A list of no places asks for the number.
+**
+** Refused: NASHIRUDDER_NOT_OPEN, NASHIRUDDER_NO_MEMORY, NASHIRUDDER_WRONG_LENGTH; `count` stays as it was unless it is the last of
+** these.
+*/
+NASHIRUDDER_MUST_USE nashirudder_code nashirudder_map_unroomy(nashirudder_map *map, uint32_t robots, uint32_t *cells, size_t cells_length,
+                                 size_t *count);
+
 /* ---- nulls, and const handles: what a program calls by the names above ---- */
 
 #ifndef NASHIRUDDER_UNCHECKED
@@ -870,6 +899,15 @@ NASHIRUDDER_MUST_USE static inline nashirudder_code nashirudder_checked_open(con
         robots), robots_length, setup, fleet, fault ? fault : &unread_fault);
 }
 
+NASHIRUDDER_MUST_USE static inline nashirudder_code nashirudder_checked_open_roomy(const uint8_t *map, size_t map_length,
+        const nashirudder_robot *robots, size_t robots_length, const nashirudder_setup *setup, nashirudder_fleet *fleet,
+        nashirudder_fault *fault) {
+    nashirudder_fault unread_fault;
+    if ((!map && map_length) || (!robots && robots_length) || !setup || !fleet) return NASHIRUDDER_NULL_POINTER;
+    return nashirudder_open_roomy(NASHIRUDDER_LIST(const uint8_t, map), map_length, NASHIRUDDER_LIST(const nashirudder_robot,
+        robots), robots_length, setup, fleet, fault ? fault : &unread_fault);
+}
+
 NASHIRUDDER_MUST_USE static inline nashirudder_code nashirudder_checked_reopen(const uint8_t *map, size_t map_length,
         const uint8_t *text, size_t text_length, const nashirudder_robot *robots, size_t robots_length,
         const nashirudder_setup *setup, nashirudder_fleet *fleet, nashirudder_fault *fault) {
@@ -877,6 +915,17 @@ NASHIRUDDER_MUST_USE static inline nashirudder_code nashirudder_checked_reopen(c
     if ((!map && map_length) || (!text && text_length) || (!robots && robots_length) || !setup
         || !fleet) return NASHIRUDDER_NULL_POINTER;
     return nashirudder_reopen(NASHIRUDDER_LIST(const uint8_t, map), map_length, NASHIRUDDER_LIST(const uint8_t, text),
+        text_length, NASHIRUDDER_LIST(const nashirudder_robot, robots), robots_length, setup, fleet,
+        fault ? fault : &unread_fault);
+}
+
+NASHIRUDDER_MUST_USE static inline nashirudder_code nashirudder_checked_reopen_roomy(const uint8_t *map, size_t map_length,
+        const uint8_t *text, size_t text_length, const nashirudder_robot *robots, size_t robots_length,
+        const nashirudder_setup *setup, nashirudder_fleet *fleet, nashirudder_fault *fault) {
+    nashirudder_fault unread_fault;
+    if ((!map && map_length) || (!text && text_length) || (!robots && robots_length) || !setup
+        || !fleet) return NASHIRUDDER_NULL_POINTER;
+    return nashirudder_reopen_roomy(NASHIRUDDER_LIST(const uint8_t, map), map_length, NASHIRUDDER_LIST(const uint8_t, text),
         text_length, NASHIRUDDER_LIST(const nashirudder_robot, robots), robots_length, setup, fleet,
         fault ? fault : &unread_fault);
 }
@@ -1197,11 +1246,20 @@ NASHIRUDDER_MUST_USE static inline nashirudder_code nashirudder_checked_map_dist
     return nashirudder_map_distances(&seen, goal, NASHIRUDDER_LIST(uint32_t, distances), distances_length);
 }
 
+NASHIRUDDER_MUST_USE static inline nashirudder_code nashirudder_checked_map_unroomy(const nashirudder_map *map, uint32_t robots,
+        uint32_t *cells, size_t cells_length, size_t *count) {
+    if (!map || (!cells && cells_length) || !count) return NASHIRUDDER_NULL_POINTER;
+    nashirudder_map seen = *map;
+    return nashirudder_map_unroomy(&seen, robots, NASHIRUDDER_LIST(uint32_t, cells), cells_length, count);
+}
+
 #define nashirudder_message nashirudder_checked_message
 #define nashirudder_setup_default nashirudder_checked_setup_default
 #define nashirudder_setup_endless nashirudder_checked_setup_endless
 #define nashirudder_open nashirudder_checked_open
+#define nashirudder_open_roomy nashirudder_checked_open_roomy
 #define nashirudder_reopen nashirudder_checked_reopen
+#define nashirudder_reopen_roomy nashirudder_checked_reopen_roomy
 #define nashirudder_close nashirudder_checked_close
 #define nashirudder_go nashirudder_checked_go
 #define nashirudder_close_client nashirudder_checked_close_client
@@ -1248,6 +1306,7 @@ NASHIRUDDER_MUST_USE static inline nashirudder_code nashirudder_checked_map_dist
 #define nashirudder_map_check_step nashirudder_checked_map_check_step
 #define nashirudder_map_first_bridge nashirudder_checked_map_first_bridge
 #define nashirudder_map_distances nashirudder_checked_map_distances
+#define nashirudder_map_unroomy nashirudder_checked_map_unroomy
 
 #endif
 

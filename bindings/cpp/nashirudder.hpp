@@ -94,6 +94,7 @@ enum class Code : std::uint32_t {
     already_shut = NASHIRUDDER_ALREADY_SHUT, book_spent = NASHIRUDDER_BOOK_SPENT, no_notice = NASHIRUDDER_NO_NOTICE,
     too_wide = NASHIRUDDER_TOO_WIDE, idle = NASHIRUDDER_IDLE, has_bridge = NASHIRUDDER_HAS_BRIDGE,
     wrong_length = NASHIRUDDER_WRONG_LENGTH, null_pointer = NASHIRUDDER_NULL_POINTER, bad_order = NASHIRUDDER_BAD_ORDER,
+    no_room = NASHIRUDDER_NO_ROOM,
     map_header = NASHIRUDDER_MAP_HEADER, map_size = NASHIRUDDER_MAP_SIZE, map_row = NASHIRUDDER_MAP_ROW,
     map_cell = NASHIRUDDER_MAP_CELL, map_trailing = NASHIRUDDER_MAP_TRAILING, bad_setup = NASHIRUDDER_BAD_SETUP,
     robot_count = NASHIRUDDER_ROBOT_COUNT, start_blocked = NASHIRUDDER_START_BLOCKED,
@@ -328,23 +329,27 @@ private:
 /* A fleet. Of one that was moved from, every call but the destructor is refused. */
 class Fleet {
 public:
-    Fleet(std::string_view map, Span<const Robot> robots, const Setup &setup = default_setup()) : count(robots.size()) {
-        detail::check_version();
-        Fault fault{};
-        detail::check(nashirudder_open(detail::address(map), map.size(), detail::address(robots), robots.size(), &setup, &handle, &fault), fault);
+    Fleet(std::string_view map, Span<const Robot> robots, const Setup &setup = default_setup()) {
+        open(nashirudder_open, map, robots, setup);
     }
     Fleet(std::string_view map, std::initializer_list<Robot> robots, const Setup &setup = default_setup())
         : Fleet(map, Span<const Robot>(robots.begin(), robots.size()), setup) {}
     /* The fleet that goes on from a chapter that was kept, whose trace is `text`. Of the robots only the ranks are read. */
     [[nodiscard]] static Fleet reopen(std::string_view map, std::string_view text, Span<const Robot> robots, const Setup &setup = default_setup()) {
-        detail::check_version();
+        return Fleet(nashirudder_reopen, map, text, robots, setup);
+    }
+    /* The same two, of a fleet that takes no errand to a cell that is not roomy for its robots: Code::no_room refuses it, and a
+       chapter with such an errand. */
+    [[nodiscard]] static Fleet open_roomy(std::string_view map, Span<const Robot> robots, const Setup &setup = default_setup()) {
         Fleet fleet;
-        Fault fault{};
-        detail::check(nashirudder_reopen(detail::address(map), map.size(), detail::address(text), text.size(), detail::address(robots), robots.size(),
-                                         &setup, &fleet.handle, &fault), fault);
-        fleet.count = robots.size();
-        fleet.number = fleet.present_number();
+        fleet.open(nashirudder_open_roomy, map, robots, setup);
         return fleet;
+    }
+    [[nodiscard]] static Fleet open_roomy(std::string_view map, std::initializer_list<Robot> robots, const Setup &setup = default_setup()) {
+        return open_roomy(map, Span<const Robot>(robots.begin(), robots.size()), setup);
+    }
+    [[nodiscard]] static Fleet reopen_roomy(std::string_view map, std::string_view text, Span<const Robot> robots, const Setup &setup = default_setup()) {
+        return Fleet(nashirudder_reopen_roomy, map, text, robots, setup);
     }
     Fleet(const Fleet &) = delete;
     Fleet &operator=(const Fleet &) = delete;
@@ -589,6 +594,21 @@ public:
 
 private:
     Fleet() = default;
+    Fleet(decltype(&nashirudder_reopen) call, std::string_view map, std::string_view text, Span<const Robot> robots, const Setup &setup)
+        : Fleet() {
+        detail::check_version();
+        Fault fault{};
+        detail::check(call(detail::address(map), map.size(), detail::address(text), text.size(), detail::address(robots), robots.size(), &setup,
+                           &handle, &fault), fault);
+        count = robots.size();
+        number = present_number();
+    }
+    void open(decltype(&nashirudder_open) call, std::string_view map, Span<const Robot> robots, const Setup &setup) {
+        detail::check_version();
+        Fault fault{};
+        detail::check(call(detail::address(map), map.size(), detail::address(robots), robots.size(), &setup, &handle, &fault), fault);
+        count = robots.size();
+    }
     /* A call that may find the chapter full. */
     template <typename Call> nashirudder_code in_chapter(Call call) {
         forbid_keeper();
@@ -699,6 +719,20 @@ public:
         std::vector<std::uint32_t> told(shape().cells);
         distances(goal, told);
         return told;
+    }
+    /* The floor cells that are not roomy for this many robots, in their order: errands there may block a fleet of them for ever. */
+    [[nodiscard]] std::vector<std::uint32_t> unroomy(std::uint32_t robots) const {
+        std::vector<std::uint32_t> cells(64);
+        std::size_t told = 0;
+        auto call = [&] { return nashirudder_map_unroomy(detail::Seen{handle}, robots, cells.data(), cells.size(), &told); };
+        nashirudder_code code = call();
+        if (code == NASHIRUDDER_WRONG_LENGTH) {
+            cells.resize(told);
+            code = call();
+        }
+        detail::check(code);
+        cells.resize(told);
+        return cells;
     }
 
 private:

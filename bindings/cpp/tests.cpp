@@ -1,6 +1,7 @@
 /* Each call and each answer of the library, from C and C++. What is wanted is worked out by hand. */
 #include "nashirudder.hpp"
 
+#include <algorithm>
 #include <atomic>
 #include <cstdio>
 #include <cstdlib>
@@ -23,6 +24,8 @@ static const char *const RING = "type octile\nheight 3\nwidth 4\nmap\n....\n.@..
 static const char *const ROW = "type octile\nheight 1\nwidth 3\nmap\n...\n";
 /* Two cells that a wall divides. */
 static const char *const APART = "type octile\nheight 1\nwidth 3\nmap\n.@.\n";
+/* A hall of nine cells, and a dead end of three: 9, 10 and 11. The dead end's sides have three, two and one cells. */
+static const char *const STUB = "type octile\nheight 3\nwidth 6\nmap\n...@@@\n......\n...@@@\n";
 
 template <typename F> static Fault refusal_of(F call) {
     try {
@@ -788,6 +791,86 @@ static void opened_maps() {
     CHECK(!map.is_open);
 }
 
+/* A fleet that takes no errand to a cell that is not roomy for its robots. */
+static void roomy() {
+    using Cells = std::vector<std::uint32_t>;
+    const Cells floor = {0, 1, 2, 6, 7, 8, 9, 10, 11, 12, 13, 14};
+    const Map stub(STUB);
+    // For as many robots as these, and for 1, 2, 3 and 4: a side of k cells is too small for k + 1 robots.
+    const Cells none_of_four[4] = {{}, {11}, {10, 11}, {9, 10, 11}};
+    CHECK(stub.unroomy(0).empty() && stub.unroomy(9) == none_of_four[3] && stub.unroomy(10) == floor && Map(RING).unroomy(512).empty());
+    for (std::uint32_t robots = 1; robots <= 4; robots++) {
+        const Cells &refused = none_of_four[robots - 1];
+        CHECK(stub.unroomy(robots) == refused);
+        std::vector<Robot> starts;
+        for (std::uint32_t robot = 0; robot < robots; robot++) starts.push_back({floor[robot], {0, 0, 0, 0}});
+        Setup setup = default_setup(2);
+        Fleet fleet = Fleet::open_roomy(STUB, starts, setup), other(STUB, starts, setup);
+        std::uint64_t taken = 0;
+        for (std::uint32_t cell = 0; cell < 20; cell++) {
+            bool is_refused = std::find(refused.begin(), refused.end(), cell) != refused.end();
+            const std::uint64_t notices = fleet.pending_count(0);
+            Fault why = refusal_of([&] { taken += fleet.go(0, 0, cell).verdict == NASHIRUDDER_ACCEPTED; });
+            CHECK(is(why, is_refused ? NASHIRUDDER_NO_ROOM : NASHIRUDDER_DONE) && fleet.pending_count(0) == notices + !is_refused);
+            CHECK(is(refusal_of([&] { (void)fleet.go(2, 0, cell); }), NASHIRUDDER_NO_CLIENT));
+            CHECK(is(refusal_of([&] { (void)other.go(0, 0, cell); }), NASHIRUDDER_DONE));
+        }
+        CHECK(taken == 12 - refused.size());
+        // What is no errand to such a cell is taken, also after a tick and in the next chapter.
+        fleet.tick();
+        fleet.next_chapter();
+        if (robots == 2) {
+            std::vector<Order> orders = {order_go(0, 1, 10), order_withdraw(0, 11), order_go(1, 1, 11), order_go(1, 1, 10)};
+            std::vector<Judgement> judged(4, Judgement{9, NASHIRUDDER_NO_VERDICT});
+            Taken many = fleet.take_many(orders, judged);
+            CHECK(many.count == 2 && many.stopped == Code::no_room && judged[0].verdict == NASHIRUDDER_ACCEPTED && judged[2].number == 9);
+            CHECK(is(refusal_of([&] { (void)fleet.go(0, 5, 11); }), NASHIRUDDER_NO_ROOM) && fleet.close_client(1).verdict == NASHIRUDDER_CLOSING);
+        }
+    }
+
+    // Robots at 0 and 2 of which one goes to the dead end's last cell, or to the one before it.
+    const std::vector<Robot> two = {{0, {0, 0, 0, 0}}, {2, {0, 0, 0, 0}}};
+    for (std::uint32_t cell : {10u, 11u}) {
+        Fleet first(STUB, two);
+        CHECK(first.go(0, 1, cell).number == 1);
+        const std::string kept = first.trace();
+        Fault why = refusal_of([&] {
+            Fleet next = Fleet::reopen_roomy(STUB, kept, two);
+            CHECK(is(refusal_of([&] { (void)next.go(0, 0, 11); }), NASHIRUDDER_NO_ROOM) && next.go(0, 0, 10).number == 2);
+        });
+        CHECK(is(why, cell == 11 ? NASHIRUDDER_NO_ROOM : NASHIRUDDER_DONE));
+        CHECK(Fleet::reopen(STUB, kept, two).go(0, 0, 11).number == 2);
+        CHECK(is(refusal_of([&] { (void)Fleet::reopen_roomy(STUB, "{}", two); }), NASHIRUDDER_TRACE_SHAPE));
+    }
+    CHECK(is(refusal_of([] { (void)Fleet::open_roomy(RING, {{5, {0, 0, 0, 0}}}); }), NASHIRUDDER_START_BLOCKED));
+    CHECK(is(refusal_of([] { (void)Fleet::open_roomy("", {{0, {0, 0, 0, 0}}}); }), NASHIRUDDER_MAP_HEADER, 1));
+    CHECK(is(refusal_of([] { (void)Fleet::open_roomy(RING, {}); }), NASHIRUDDER_ROBOT_COUNT));
+
+    nashirudder_map map = NASHIRUDDER_CLOSED;
+    std::uint32_t cells[4] = {9, 9, 9, 9};
+    std::size_t count = 7;
+    CHECK(nashirudder_map_unroomy(&map, 2, cells, 4, &count) == NASHIRUDDER_NOT_OPEN && count == 7);
+    CHECK(nashirudder_map_open((const std::uint8_t *)STUB, std::strlen(STUB), &map, nullptr) == NASHIRUDDER_DONE);
+    CHECK(nashirudder_map_unroomy(&map, 4, cells, 2, &count) == NASHIRUDDER_WRONG_LENGTH && count == 3 && cells[0] == 9);
+    CHECK(nashirudder_map_unroomy(&map, 3, cells, 4, &count) == NASHIRUDDER_DONE && count == 2 && cells[0] == 10 && cells[1] == 11 && cells[2] == 9);
+    CHECK(nashirudder_map_unroomy(&map, 3, nullptr, 0, &count) == NASHIRUDDER_WRONG_LENGTH && count == 2);
+    CHECK(nashirudder_map_unroomy(&map, 3, nullptr, 4, &count) == NASHIRUDDER_NULL_POINTER && nashirudder_map_unroomy(nullptr, 3, cells, 4, &count) == NASHIRUDDER_NULL_POINTER);
+    CHECK(nashirudder_map_unroomy(&map, 3, cells, 4, nullptr) == NASHIRUDDER_NULL_POINTER);
+    nashirudder_map_close(&map);
+
+    Setup setup = default_setup();
+    nashirudder_fleet fleet = NASHIRUDDER_CLOSED;
+    nashirudder_fault fault{7, 7, NASHIRUDDER_IDLE};
+    const std::uint8_t *text = reinterpret_cast<const std::uint8_t *>(STUB);
+    const std::size_t length = std::strlen(STUB);
+    CHECK(nashirudder_open_roomy(text, length, two.data(), 2, &setup, nullptr, &fault) == NASHIRUDDER_NULL_POINTER);
+    CHECK(nashirudder_reopen_roomy(text, length, nullptr, 1, two.data(), 2, &setup, &fleet, &fault) == NASHIRUDDER_NULL_POINTER);
+    CHECK(nashirudder_open_roomy(text, length, two.data(), 2, &setup, &fleet, &fault) == NASHIRUDDER_DONE);
+    CHECK(nashirudder_open_roomy(text, length, two.data(), 2, &setup, &fleet, &fault) == NASHIRUDDER_ALREADY_OPEN && is(fault, NASHIRUDDER_IDLE, 7, 7));
+    CHECK(nashirudder_reopen_roomy(text, length, text, 2, two.data(), 2, &setup, &fleet, &fault) == NASHIRUDDER_ALREADY_OPEN);
+    nashirudder_close(&fleet);
+}
+
 /* With a word: the threads alone, for a tool that takes long. */
 int main(int count, char **) {
     if (count > 1) {
@@ -817,5 +900,6 @@ int main(int count, char **) {
     moves();
     maps();
     opened_maps();
+    roomy();
     std::printf("bindings/cpp/tests.cpp: all pass\n");
 }

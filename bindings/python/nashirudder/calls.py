@@ -107,6 +107,8 @@ FUNCTIONS = {
     "setup_endless": (c_uint32, POINTER(CSetup)),
     "open": (*_TEXT, POINTER(CRobot), c_size_t, POINTER(CSetup), _FLEET, POINTER(CFault)),
     "reopen": (*_TEXT, *_TEXT, POINTER(CRobot), c_size_t, POINTER(CSetup), _FLEET, POINTER(CFault)),
+    "open_roomy": (*_TEXT, POINTER(CRobot), c_size_t, POINTER(CSetup), _FLEET, POINTER(CFault)),
+    "reopen_roomy": (*_TEXT, *_TEXT, POINTER(CRobot), c_size_t, POINTER(CSetup), _FLEET, POINTER(CFault)),
     "close": (_FLEET,),
     "go": (_FLEET, c_uint32, c_uint32, c_uint32, POINTER(CJudgement)),
     "close_client": (_FLEET, c_uint32, POINTER(CJudgement)),
@@ -155,6 +157,7 @@ FUNCTIONS = {
     "map_check_step": (POINTER(CMap), POINTER(c_uint32), c_size_t, POINTER(c_uint32), c_size_t, POINTER(CFault)),
     "map_first_bridge": (POINTER(CMap), POINTER(CEdge)),
     "map_distances": (POINTER(CMap), c_uint32, POINTER(c_uint32), c_size_t),
+    "map_unroomy": (POINTER(CMap), c_uint32, POINTER(c_uint32), c_size_t, POINTER(c_size_t)),
 }
 RESULTS = {
     "setup_default": None, "setup_endless": None, "close": None, "map_close": None, "chapter_close": None,

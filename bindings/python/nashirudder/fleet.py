@@ -125,7 +125,7 @@ class AnyFleet(Closing):
         `accepted` of it says.
 
         Raises Refused with "lane-full" if the client has as many orders that are not judged as its `lane` holds (64, or more: see the class),
-        with "no-client", or, over pipes and with `roomy`, with "no-room"; then nothing was posted. A robot or cell that there is not is no refusal of this call, but
+        with "no-client", or, with `roomy`, with "no-room"; then nothing was posted. A robot or cell that there is not is no refusal of this call, but
         of the order.
         """
         errand = Errand(self, whole_number("client", client), whole_number("robot", robot), whole_number("cell", cell))

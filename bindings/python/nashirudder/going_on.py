@@ -10,11 +10,12 @@ from .errors import FileFailed, Refused
 from .finding import Place
 from .folder import KeptChapter
 from .handle import Handle
+from .map_handle import Map
 
 # Why no fleet goes on from a chapter, in the words of nashirudder.h. The others are faults of the map and the limits.
 _REASONS = {
     "trace-not-json", "trace-version", "trace-shape", "chapter-illegal", "laws-differ", "limits-differ",
-    "chapters-spent", "waited-too-long",
+    "chapters-spent", "waited-too-long", "no-room",
 }
 
 
@@ -32,7 +33,17 @@ def _refuse(kept: KeptChapter, why: str, cause: Optional[Exception] = None) -> N
     raise FileFailed(f"the fleet does not go on: {kept.name}: {why}") from cause
 
 
-def reopened(told: opening.Opening, kept: KeptChapter, built: Optional[Place]) -> Handle:
+def _unroomy_errand(told: opening.Opening, kept: KeptChapter, built: Optional[Place], limits: Dict[str, int]) -> str:
+    """Which unfinished errand of the chapter goes to a cell that is not roomy, as the program says it."""
+    map = opening.read_map(told.map)
+    with Map(map, built=built) as of, Handle.reopen(map, kept.text, None, built=built, **limits) as fleet:
+        unroomy = {int(cell) for cell in of.unroomy(fleet.robots())}
+        errands = (errand for client in range(fleet.clients()) for errand in fleet.open_errands(client))
+        first = next(errand for errand in errands if errand.cell in unroomy)
+    return f"an errand of client {first.client} for robot {first.robot} goes to cell {first.cell}, which is not roomy"
+
+
+def reopened(told: opening.Opening, kept: KeptChapter, built: Optional[Place], roomy: bool = False) -> Handle:
     """The fleet that goes on from the chapter of a file. `queue` and `life` are the chapter's where the caller does not
     say them. Raises FileFailed if no fleet goes on from it.
     """
@@ -40,10 +51,12 @@ def reopened(told: opening.Opening, kept: KeptChapter, built: Optional[Place]) -
     number = of_chapter.pop("chapter", kept.number)
     limits = {**opening.ENDLESS, **of_chapter, **told.limits}
     try:
-        handle = Handle.reopen(opening.read_map(told.map), kept.text, None, built=built, **limits)
+        handle = Handle.reopen(opening.read_map(told.map), kept.text, None, roomy=roomy, built=built, **limits)
     except Refused as refused:
         if refused.name not in _REASONS:
             raise
+        if refused.name == "no-room":
+            _refuse(kept, _unroomy_errand(told, kept, built, limits), refused)
         _refuse(kept, refused.sentence, refused)
     if number == kept.number and handle.robots() == len(told.robots) and handle.clients() == told.clients:
         return handle

@@ -55,8 +55,9 @@ class Handle(Uncopied, Views):
     it and four ranks, 0 to 255 each, of the ways north, east, south and west: of two neighbour cells that are equally
     near to its goal a robot tries the one with the lower rank first. `clients` is 1 to 64. The limits are `life`,
     `orders`, `clock`, `lane`, `outlet`, `queue`, `mailbox`, `chapter` and `chapters`, with the defaults of
-    nashirudder_setup_default: a fleet that runs for long needs greater ones. `built` is the library, or a folder that
-    has it.
+    nashirudder_setup_default: a fleet that runs for long needs greater ones. With `roomy` an errand
+    to a cell that is not roomy for the robots is refused with "no-room", before it is judged. `built` is the library,
+    or a folder that has it.
 
     A call that is refused raises Refused, whose `name` is the word of its code, or NoMemory, and changes nothing.
     Numbers are whole ones from 0 to 2^32 - 1 if nothing else is said, or the call raises OutOfRange. Any thread may
@@ -69,10 +70,11 @@ class Handle(Uncopied, Views):
     """
 
     def __init__(
-        self, map: Text, robots: Sequence[Start], clients: int = 1, *, built: Optional[Place] = None, **limits: int
+        self, map: Text, robots: Sequence[Start], clients: int = 1, *, roomy: bool = False,
+        built: Optional[Place] = None, **limits: int
     ) -> None:
-        text = text_of(map)
-        self._open("open", (text, len(text)), [_start(robot) for robot in robots], clients, built, limits)
+        text, name = text_of(map), "open_roomy" if roomy else "open"
+        self._open(name, (text, len(text)), [_start(robot) for robot in robots], clients, built, limits)
 
     def _open(
         self, name: str, texts: Tuple[Any, ...], robots: List[CRobot], clients: int, built: Optional[Place], limits: Any
@@ -92,7 +94,7 @@ class Handle(Uncopied, Views):
     @classmethod
     def reopen(
         cls: "Type[H]", map: Text, trace: Text, ranks: Optional[Sequence[Sequence[int]]] = None, *,
-        built: Optional[Place] = None, **limits: int
+        roomy: bool = False, built: Optional[Place] = None, **limits: int
     ) -> "H":
         """A fleet that goes on from a chapter that was kept: `trace` is what `trace` returned at the chapter's end.
 
@@ -102,13 +104,14 @@ class Handle(Uncopied, Views):
 
         Raises Refused with a fault of the map, "trace-not-json", "trace-version", "trace-shape", "bad-setup",
         "chapter-illegal" (the entry and the rule are in `numbers`: docs/TRACE.md), "laws-differ", "limits-differ",
-        "chapters-spent" or "waited-too-long"; and as the constructor does.
+        "chapters-spent" or "waited-too-long", with `roomy` "no-room" if an unfinished errand goes to a cell that is not
+        roomy; and as the constructor does.
         """
         fleet, texts = cls.__new__(cls), (text_of(map), text_of(trace))
         kept = [(0, 0, 0, 0)] * _robots_in(texts[1]) if ranks is None else ranks
         robots = [_start((0, tuple(four))) for four in kept]
         handed = (texts[0], len(texts[0]), texts[1], len(texts[1]))
-        fleet._open("reopen", handed, robots, 1, built, limits)
+        fleet._open("reopen_roomy" if roomy else "reopen", handed, robots, 1, built, limits)
         return fleet
 
     def close(self) -> None:

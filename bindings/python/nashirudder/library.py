@@ -10,7 +10,7 @@ is one about a map and a chapter.
 
 import os
 from collections import deque
-from typing import Callable, Deque, Dict, List, Optional, Sequence, TypeVar
+from typing import Callable, Deque, Dict, FrozenSet, List, Optional, Sequence, TypeVar
 
 from . import opening
 from .asked import CloseClient, Go, Withdraw
@@ -48,7 +48,8 @@ class Fleet(AnyFleet):
     `fleet live` kept.
 
     `built` is the library, or a folder that has it. `ties` is "plain": "south" is refused by OutOfRange. (A robot's own
-    ranks, by which "south" chooses, are for `Handle`.)
+    ranks, by which "south" chooses, are for `Handle`.) With `roomy`, as over pipes, `go` refuses an errand to a cell
+    that is not roomy for the robots with "no-room".
     """
 
     def __init__(
@@ -61,6 +62,7 @@ class Fleet(AnyFleet):
         traces: Optional[Place] = None,
         resume: bool = False,
         roll: bool = True,
+        roomy: bool = False,
         built: Optional[Place] = None,
         timeout: Optional[float] = None,
         **limits: int,
@@ -77,14 +79,19 @@ class Fleet(AnyFleet):
         self._lanes: Dict[int, Deque[Order]] = {client: deque() for client in range(told.clients)}
         self._status: Optional[int] = None
         self._is_closed = self._is_limited = False
+        self._unroomy: FrozenSet[int] = frozenset()
         self._folder = None if told.traces is None else ChapterFolder(told.traces, resume)
         try:
             kept = None if self._folder is None else self._folder.last
             if kept is None:
                 limits = {**opening.ENDLESS, **told.limits}
-                self._handle = Handle(opening.read_map(told.map), told.robots, told.clients, built=built, **limits)
+                text = opening.read_map(told.map)
+                self._handle = Handle(text, told.robots, told.clients, roomy=roomy, built=built, **limits)
             else:
-                self._handle, self._number = reopened(told, kept, built), kept.number + 1
+                self._handle, self._number = reopened(told, kept, built, roomy), kept.number + 1
+            if roomy:
+                with Map(opening.read_map(told.map), built=built) as of:
+                    self._unroomy = frozenset(int(cell) for cell in of.unroomy(len(told.robots)))
         except BaseException:
             if self._folder is not None:
                 self._folder.let_go()
@@ -133,6 +140,8 @@ class Fleet(AnyFleet):
     def _post(self, order: Order) -> None:
         if order.client not in self._lanes:
             raise refusal("no-client")
+        if order._kind == "go" and order._numbers[1] in self._unroomy:
+            raise refusal("no-room")
         if len(self._lanes[order.client]) >= self._lane:
             raise refusal("lane-full")
         self._lanes[order.client].append(order)

@@ -84,3 +84,15 @@ class Map(Uncopied):
         told = (ctypes.c_uint32 * self.cells)()
         check(self._call("map_distances", whole_number("goal", goal), told, self.cells))
         return as_cells(told)
+
+    def unroomy(self, robots: int) -> "Cells":
+        """The floor cells that are not roomy for this many robots, in their order: errands there may block a fleet of
+        them for ever (docs/GLOSSARY.md, "roomy").
+        """
+        number, count = whole_number("robots", robots), ctypes.c_size_t()
+        code = self._call("map_unroomy", number, (ctypes.c_uint32 * 1)(), 0, byref(count))
+        if code != Code.WRONG_LENGTH:
+            check(code)
+        told = (ctypes.c_uint32 * count.value)()
+        check(self._call("map_unroomy", number, told, count.value, byref(count)))
+        return as_cells(told)

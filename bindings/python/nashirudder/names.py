@@ -30,6 +30,7 @@ class Code(enum.IntEnum):
     WRONG_LENGTH = 15
     NULL_POINTER = 16
     BAD_ORDER = 17
+    NO_ROOM = 18
     MAP_HEADER = 20
     MAP_SIZE = 21
     MAP_ROW = 22

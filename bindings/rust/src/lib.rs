@@ -76,6 +76,8 @@ pub enum Code {
     NullPointer,
     /// There is no kind of orders of this number.
     BadOrder,
+    /// The cell is not roomy for the fleet's robots (`Fleet::open_roomy`).
+    NoRoom,
     /// The line of the head, `first`, is missing or not in its form.
     MapHeader,
     /// The height or the width is not from 1 to 1,024.
@@ -156,6 +158,7 @@ impl Code {
             15 => Code::WrongLength,
             16 => Code::NullPointer,
             17 => Code::BadOrder,
+            18 => Code::NoRoom,
             20 => Code::MapHeader,
             21 => Code::MapSize,
             22 => Code::MapRow,
@@ -208,6 +211,7 @@ impl Code {
             Code::WrongLength => 15,
             Code::NullPointer => 16,
             Code::BadOrder => 17,
+            Code::NoRoom => 18,
             Code::MapHeader => 20,
             Code::MapSize => 21,
             Code::MapRow => 22,
@@ -260,6 +264,7 @@ impl Code {
             Code::WrongLength => "wrong-length",
             Code::NullPointer => "null-pointer",
             Code::BadOrder => "bad-order",
+            Code::NoRoom => "no-room",
             Code::MapHeader => "map-header",
             Code::MapSize => "map-size",
             Code::MapRow => "map-row",
@@ -761,18 +766,23 @@ impl Drop for Fleet {
 impl Fleet {
     /// A fleet on the map, the text of a .map file, each robot on its start.
     pub fn open(map: &[u8], robots: &[Robot], setup: &Setup) -> Result<Fleet, Refused> {
+        Fleet::open_by(raw::nashirudder_open, map, robots, setup)
+    }
+
+    /// The same fleet, but it takes no errand to a floor cell that is not roomy for its robots: an order to one is refused by
+    /// `Code::NoRoom` before it is taken. `Map::unroomy` says which cells these are.
+    pub fn open_roomy(map: &[u8], robots: &[Robot], setup: &Setup) -> Result<Fleet, Refused> {
+        Fleet::open_by(raw::nashirudder_open_roomy, map, robots, setup)
+    }
+
+    fn open_by(call: raw::Open, map: &[u8], robots: &[Robot], setup: &Setup) -> Result<Fleet, Refused> {
         check_version()?;
         let setup = setup.raw();
-        let mut fleet = Fleet {
-            handle: Handle::CLOSED,
-            robots: robots.len(),
-            number: 0,
-            keeper: None,
-        };
+        let mut fleet = Fleet::closed(robots.len());
         let mut fault = RawFault::default();
         // SAFETY: a slice's pointer is never null, and its length is true.
         let code = unsafe {
-            raw::nashirudder_open(
+            call(
                 map.as_ptr(),
                 map.len(),
                 robots.as_ptr(),
@@ -793,18 +803,34 @@ impl Fleet {
         robots: &[Robot],
         setup: &Setup,
     ) -> Result<Fleet, Refused> {
+        Fleet::reopen_by(raw::nashirudder_reopen, map, trace, robots, setup)
+    }
+
+    /// The same fleet, but as one of `open_roomy`. A chapter with an unfinished errand to a cell that is not roomy is refused by
+    /// `Code::NoRoom`.
+    pub fn reopen_roomy(
+        map: &[u8],
+        trace: &str,
+        robots: &[Robot],
+        setup: &Setup,
+    ) -> Result<Fleet, Refused> {
+        Fleet::reopen_by(raw::nashirudder_reopen_roomy, map, trace, robots, setup)
+    }
+
+    fn reopen_by(
+        call: raw::Reopen,
+        map: &[u8],
+        trace: &str,
+        robots: &[Robot],
+        setup: &Setup,
+    ) -> Result<Fleet, Refused> {
         check_version()?;
         let setup = setup.raw();
-        let mut fleet = Fleet {
-            handle: Handle::CLOSED,
-            robots: robots.len(),
-            number: 0,
-            keeper: None,
-        };
+        let mut fleet = Fleet::closed(robots.len());
         let mut fault = RawFault::default();
         // SAFETY: a slice's pointer is never null, and its length is true.
         let code = unsafe {
-            raw::nashirudder_reopen(
+            call(
                 map.as_ptr(),
                 map.len(),
                 trace.as_ptr(),
@@ -819,6 +845,16 @@ impl Fleet {
         check_told(code, &fault)?;
         fleet.number = number_in(&fleet.trace()?);
         Ok(fleet)
+    }
+
+    /// One that owns nothing yet, of this many robots.
+    fn closed(robots: usize) -> Fleet {
+        Fleet {
+            handle: Handle::CLOSED,
+            robots,
+            number: 0,
+            keeper: None,
+        }
     }
 
     /// From now on an order, a tick or a shut that finds the chapter full is made in the next one; `keep` is shown the full one
@@ -1372,6 +1408,24 @@ impl Map {
             raw::nashirudder_map_distances(&mut self.handle.seen(), goal, told.as_mut_ptr(), told.len())
         })?;
         Ok(ways_of(told))
+    }
+
+    /// The floor cells that are not roomy for this many robots, in their order: errands there may block a fleet of them for
+    /// ever (`Fleet::open_roomy`).
+    pub fn unroomy(&self, robots: u32) -> Result<Vec<u32>, Refused> {
+        let (mut cells, mut count) = (vec![0; 64], 0);
+        // SAFETY: a vector's pointer is never null, and its length is true.
+        let mut call = |cells: &mut Vec<u32>| unsafe {
+            raw::nashirudder_map_unroomy(&mut self.handle.seen(), robots, cells.as_mut_ptr(), cells.len(), &mut count)
+        };
+        let mut code = call(&mut cells);
+        if code == WRONG_LENGTH {
+            cells = vec![0; self.shape()?.floor as usize];
+            code = call(&mut cells);
+        }
+        check(code)?;
+        cells.truncate(count);
+        Ok(cells)
     }
 }
 

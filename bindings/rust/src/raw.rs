@@ -132,6 +132,30 @@ pub(crate) struct RawEdge {
     pub upper: u32,
 }
 
+/// A call that opens a fleet.
+pub(crate) type Open = unsafe extern "C" fn(
+    map: *const u8,
+    map_length: usize,
+    robots: *const crate::Robot,
+    robots_length: usize,
+    setup: *const RawSetup,
+    fleet: *mut Handle,
+    fault: *mut RawFault,
+) -> u32;
+
+/// A call that opens a fleet that goes on.
+pub(crate) type Reopen = unsafe extern "C" fn(
+    map: *const u8,
+    map_length: usize,
+    text: *const u8,
+    text_length: usize,
+    robots: *const crate::Robot,
+    robots_length: usize,
+    setup: *const RawSetup,
+    fleet: *mut Handle,
+    fault: *mut RawFault,
+) -> u32;
+
 extern "C" {
     pub(crate) fn nashirudder_version() -> u32;
     pub(crate) fn nashirudder_is_proved() -> bool;
@@ -143,6 +167,17 @@ extern "C" {
     pub(crate) fn nashirudder_setup_default(clients: u32, setup: *mut RawSetup);
     pub(crate) fn nashirudder_setup_endless(clients: u32, setup: *mut RawSetup);
     pub(crate) fn nashirudder_reopen(
+        map: *const u8,
+        map_length: usize,
+        text: *const u8,
+        text_length: usize,
+        robots: *const crate::Robot,
+        robots_length: usize,
+        setup: *const RawSetup,
+        fleet: *mut Handle,
+        fault: *mut RawFault,
+    ) -> u32;
+    pub(crate) fn nashirudder_reopen_roomy(
         map: *const u8,
         map_length: usize,
         text: *const u8,
@@ -184,6 +219,15 @@ extern "C" {
     pub(crate) fn nashirudder_longest_wait(fleet: *mut Handle, ticks: *mut u64) -> u32;
     pub(crate) fn nashirudder_wait_limit(fleet: *mut Handle, ticks: *mut u64) -> u32;
     pub(crate) fn nashirudder_open(
+        map: *const u8,
+        map_length: usize,
+        robots: *const crate::Robot,
+        robots_length: usize,
+        setup: *const RawSetup,
+        fleet: *mut Handle,
+        fault: *mut RawFault,
+    ) -> u32;
+    pub(crate) fn nashirudder_open_roomy(
         map: *const u8,
         map_length: usize,
         robots: *const crate::Robot,
@@ -299,6 +343,13 @@ extern "C" {
         goal: u32,
         distances: *mut u32,
         distances_length: usize,
+    ) -> u32;
+    pub(crate) fn nashirudder_map_unroomy(
+        map: *mut Handle,
+        robots: u32,
+        cells: *mut u32,
+        cells_length: usize,
+        count: *mut usize,
     ) -> u32;
     pub(crate) fn nashirudder_judge(
         map: *const u8,

@@ -308,3 +308,38 @@ fn asks_a_map_that_is_read_once() -> Result<(), Refused> {
     assert_eq!(name_of(Map::open(b"type octile\n")), ("map-header", (2, 0)));
     Ok(())
 }
+
+#[test]
+fn takes_errands_to_roomy_cells_alone() -> Result<(), Refused> {
+    // A hall of nine cells, and a dead end of three: 9, 10 and 11. The dead end's sides have three, two and one cells.
+    const STUB: &[u8] = b"type octile\nheight 3\nwidth 6\nmap\n...@@@\n......\n...@@@\n";
+    let (map, setup) = (Map::open(STUB)?, Setup::new(1));
+    let refused: [&[u32]; 4] = [&[], &[11], &[10, 11], &[9, 10, 11]];
+    for (robots, refused) in (1..).zip(refused) {
+        assert_eq!(map.unroomy(robots)?, refused);
+        let starts: Vec<Robot> = [0, 1, 2, 6][..robots as usize].iter().map(|cell| Robot::at(*cell)).collect();
+        let mut fleet = Fleet::open_roomy(STUB, &starts, &setup)?;
+        for cell in 0..20 {
+            let told = fleet.go(0, 0, cell);
+            if refused.contains(&cell) {
+                assert_eq!(name_of(told), ("no-room", (0, 0)));
+            } else {
+                told?;
+            }
+        }
+        assert_eq!(Fleet::open(STUB, &starts, &setup)?.go(0, 0, 11)?, Verdict::Accepted(1));
+    }
+    let robots = [Robot::at(0), Robot::at(2)];
+    for cell in [10, 11] {
+        let mut first = Fleet::open(STUB, &robots, &setup)?;
+        assert_eq!(first.go(0, 1, cell)?, Verdict::Accepted(1));
+        let next = Fleet::reopen_roomy(STUB, &first.trace()?, &robots, &setup);
+        if cell == 11 {
+            assert_eq!(name_of(next), ("no-room", (0, 0)));
+        } else {
+            assert_eq!(name_of(next?.go(0, 0, 11)), ("no-room", (0, 0)));
+        }
+    }
+    assert_eq!(map.unroomy(10)?.len(), 12);
+    Ok(())
+}

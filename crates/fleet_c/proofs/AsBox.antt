@@ -10,12 +10,12 @@ use Rattle.std_heap.specs.contracts.Global as heap
 use Rattle.std_heap.specs.contracts.GlobalAllocator.TheImpl.{ghosts, dict}
 use Rattle.std_heap.proofs.Global.TheLaws as heap_laws
 use Rattle.fleet_c.specs.Owns.{held_row}
-use Rattle.fleet_core.proofs.kernel.Core.TheLaws as held_laws
+use Rattle.fleet_c.proofs.fleet.Fleet.TheLaws as held_laws
 use Rattle.fleet_c.specs.contracts.parts.Parts as parts
 use Rattle.fleet_c.specs.contracts.owned.Owned as owned
 
 abbrev pub E : Bx
-E = record { row = held_row; laws = held_laws.the_row_laws heap.the_row ghosts heap_laws.the_row_laws; al = record { row = heap.the_row; laws = heap_laws.the_row_laws; g = ghosts; d = dict; drops = impl [] tnil dnil } }
+E = record { row = held_row; laws = held_laws.the_row_laws; al = record { row = heap.the_row; laws = heap_laws.the_row_laws; g = ghosts; d = dict; drops = impl [] tnil dnil } }
 
 abbrev pub FromParts : Slot 0
 FromParts = plain (λ _. parts.the_row held_row heap.the_row ghosts)

@@ -10,6 +10,7 @@ mod Places
 mod Queued
 mod Refused
 mod Runs
+mod SameFleet
 mod Shows
 mod Stands
 mod Turns

@@ -1,5 +1,5 @@
 -- What the calls that do many things at once answer C.
-use Rattle.std.specs.Prelude.{ℕ, zero, suc, ◌≡◌, ◌≢◌, ◌<◌, ◌≤◌, ◌++◌, ◌∷◌, [], List, length, map, drop, Option, Some, None, IsSomeAnd, MatchOption, slice_get, slice_index_or}
+use Rattle.std.specs.Prelude.{ℕ, Bool, zero, suc, ◌≡◌, ◌≢◌, ◌<◌, ◌≤◌, ◌++◌, ◌∷◌, [], List, length, map, drop, Option, Some, None, IsSomeAnd, MatchOption, slice_get, slice_index_or}
 use Rattle.fleet_book.specs.declared.notice.Notice.{Notice}
 use Rattle.fleet_history.specs.declared.history.Arrival.{Arrival}
 use Rattle.fleet_history.specs.declared.history.Bye.{Bye}
@@ -7,8 +7,9 @@ use Rattle.fleet_history.specs.declared.history.Entry.{Entry}
 use Rattle.fleet_history.specs.declared.history.Entry.TheVariants as entry
 use Rattle.fleet_history.specs.History.{clients, robots, place}
 use Rattle.fleet_core.specs.Core.{World, grown, pending, without_first}
-use Rattle.fleet_c.specs.Answers.{OfKnown, IsTicked, Orders}
+use Rattle.fleet_c.specs.Answers.{OfKnown, IsTicked}
 use Rattle.fleet_c.specs.Forms.{note_of, order_of, arrival_of}
+use Rattle.fleet_c.specs.Roomy.{LetsIn}
 use Rattle.fleet_c.specs.declared.codes.TheConstants.{DONE, NO_CLIENT, WRONG_LENGTH, BAD_ORDER}
 use Rattle.fleet_c.specs.declared.judgement.Judgement.{Judgement}
 use Rattle.fleet_c.specs.declared.landing.Landing.{Landing}
@@ -41,27 +42,27 @@ GivesMany w client code before after count n =
 
 -- ---- orders
 
--- one order of a list: of its client, or of no kind that there is
-abbrev pub Requested : {A : Type 0} → World A → Request → ℕ → Judgement → World A → Type 0
-Requested w r code told n = MatchOption (order_of r) ((code ≡ BAD_ORDER) × (n ≡ w)) (λ order. Orders w r.client order code told n)
+-- one order of a list, for a fleet that refuses these cells: of its client, or of no kind that there is
+abbrev pub Requested : {A : Type 0} → List Bool → World A → Request → ℕ → Judgement → World A → Type 0
+Requested cells w r code told n = MatchOption (order_of r) ((code ≡ BAD_ORDER) × (n ≡ w)) (λ order. LetsIn cells w r.client order code told n)
 
 -- the first of the orders were taken one after the other, each with its judgement
-abbrev pub TookMany : {A : Type 0} → World A → List Request → List Judgement → ℕ → World A → Type 0
-TookMany w requests told zero n = n ≡ w
-TookMany {A} w requests told (suc k) n = (mid : World A) × TookMany w requests told k mid
-    × ((r : Request) (d : Judgement) → slice_get requests k ≡ Some r → Requested mid r DONE (slice_index_or told k d) n)
+abbrev pub TookMany : {A : Type 0} → List Bool → World A → List Request → List Judgement → ℕ → World A → Type 0
+TookMany cells w requests told zero n = n ≡ w
+TookMany {A} cells w requests told (suc k) n = (mid : World A) × TookMany cells w requests told k mid
+    × ((r : Request) (d : Judgement) → slice_get requests k ≡ Some r → Requested cells mid r DONE (slice_index_or told k d) n)
 
 -- the orders were taken until the list ended, or one was refused, which is said of the world after those before it
-pub record AreTaken {A : Type 0} (w : World A) (requests : List Request) (before after : List Judgement) (code count : ℕ) (n : World A) : Type 0 where
+pub record AreTaken {A : Type 0} (cells : List Bool) (w : World A) (requests : List Request) (before after : List Judgement) (code count : ℕ) (n : World A) : Type 0 where
   pub fit : count ≤ length requests
-  pub taken : TookMany w requests after count n
+  pub taken : TookMany cells w requests after count n
   pub rest : (k : ℕ) (d : Judgement) → count ≤ k → slice_index_or after k d ≡ slice_index_or before k d
   pub all : count ≡ length requests → code ≡ DONE
-  pub stopped : (r : Request) → slice_get requests count ≡ Some r → (code ≢ DONE) × ((told : Judgement) × Requested n r code told n)
+  pub stopped : (r : Request) → slice_get requests count ≡ Some r → (code ≢ DONE) × ((told : Judgement) × Requested cells n r code told n)
 
 -- the lists have as many places as there are orders, or nothing is taken, and nothing told
-abbrev pub TakesMany : {A : Type 0} → World A → List Request → ℕ → List Judgement → List Judgement → ℕ → ℕ → World A → Type 0
-TakesMany w requests code before after had count n = (length before ≡ length requests → AreTaken w requests before after code count n)
+abbrev pub TakesMany : {A : Type 0} → List Bool → World A → List Request → ℕ → List Judgement → List Judgement → ℕ → ℕ → World A → Type 0
+TakesMany cells w requests code before after had count n = (length before ≡ length requests → AreTaken cells w requests before after code count n)
     × (length before ≢ length requests → (code ≡ WRONG_LENGTH) × (n ≡ w) × (after ≡ before) × (count ≡ had))
 
 -- ---- a tick with what it shows

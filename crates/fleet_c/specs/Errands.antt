@@ -28,7 +28,7 @@ queued_from robot place [] = []
 queued_from robot place (e ∷ es) = queued_at robot place e ∷ queued_from robot (place + 1) es
 
 -- a list is told, where there is room for it, and how many places it needs
-pub record IsListed (all : List Chore) (code : ℕ) (before after : List Chore) (had count : ℕ) : Type 0 where
+pub record IsListed {X : Type 0} (all : List X) (code : ℕ) (before after : List X) (had count : ℕ) : Type 0 where
   pub needed : code ≢ NO_MEMORY → count ≡ length all
   pub short : (code ≡ WRONG_LENGTH) → length before < length all
   pub told : code ≡ DONE → after ≡ all ++ drop (length all) before

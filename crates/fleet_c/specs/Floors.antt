@@ -1,10 +1,13 @@
 -- What the calls on a map that was opened answer C.
-use Rattle.std.specs.Prelude.{ℕ, ◌≡◌, length, Option, None, Some}
+use Rattle.std.specs.Prelude.{ℕ, ◌≡◌, ◌≢◌, List, length, Option, None, Some}
 use Rattle.fleet_grid.specs.Counts.{edge_count, floor_count}
 use Rattle.fleet_grid.specs.Floor.{Floor, IsFloor, IsNeighbour}
 use Rattle.fleet_grid.specs.Walk.{AreJoined}
+use Rattle.fleet_roomy.specs.Unroomy.{IsUnroomyCell}
+use Rattle.fleet_survey.specs.Survey.{AreCells}
+use Rattle.fleet_c.specs.Errands.{IsListed}
 use Rattle.fleet_c.specs.OwnsMap.{HeldValue}
-use Rattle.fleet_c.specs.declared.codes.TheConstants.{NOT_OPEN}
+use Rattle.fleet_c.specs.declared.codes.TheConstants.{NOT_OPEN, NO_MEMORY}
 use Rattle.fleet_c.specs.declared.map_shape.MapShape.{MapShape}
 
 -- a closed handle is refused and stays closed; this is said of the floor of an open one, which stays as it is
@@ -22,3 +25,14 @@ pub record IsShape (m : Floor) (shape : MapShape) : Type 0 where
 -- both cells are floor, and a walk joins them
 abbrev pub AreOnePart : Floor → ℕ → ℕ → Type 0
 AreOnePart m a b = IsFloor m a × IsFloor m b × AreJoined (IsNeighbour m) a b
+
+-- a list of the floor cells that are not roomy for n robots, each once, in their order, is told
+pub record TellsUnroomy (m : Floor) (n code : ℕ) (before after : List ℕ) (had count : ℕ) : Type 0 where
+  pub cells : List ℕ
+  pub are : AreCells (IsUnroomyCell m n) cells
+  pub listed : IsListed cells code before after had count
+
+-- the same, or it was out of memory, and nothing is told
+pub record ListsUnroomy (m : Floor) (n code : ℕ) (before after : List ℕ) (had count : ℕ) : Type 0 where
+  pub tells : code ≢ NO_MEMORY → TellsUnroomy m n code before after had count
+  pub memory : code ≡ NO_MEMORY → (after ≡ before) × (count ≡ had)

@@ -8,11 +8,12 @@ pub mod Batches
 pub mod Owns
 pub mod OwnsMap
 pub mod Handles
+pub mod Roomy
 pub mod Sentences
 pub mod Maps
-pub mod Floors
 pub mod OwnsChapter
 pub mod HandedOut
 pub mod Errands
+pub mod Floors
 pub mod Judged
 pub mod inside

@@ -4,13 +4,14 @@ use Rattle.std.specs.declared.alloc.Global.{Global}
 use Rattle.fleet_map.specs.Text.{lines_of}
 use Rattle.fleet_map.specs.FirstFault.{IsFirstFault}
 use Rattle.fleet_grid.specs.Floor.{Floor}
+use Rattle.fleet_bound.specs.Roomy.{AreOpenRoomy}
 use Rattle.fleet_core.specs.Core.{World}
 use Rattle.fleet_trace.specs.Trace.{Trace}
 use Rattle.fleet_trace.specs.Reads.{Tells, IsTraceFault}
 use Rattle.fleet_trace.specs.declared.fault.TraceFault.TheVariants as trace
 use Rattle.fleet_reopen.specs.Reopening.{CanReopen, IsReopenFault, reopened_world}
 use Rattle.fleet_reopen.specs.declared.fault.ReopenFault.TheVariants as chapter
-use Rattle.fleet_c.specs.declared.codes.TheConstants.{NO_MEMORY, BAD_SETUP, WRONG_SIZE, TRACE_NOT_JSON, TRACE_VERSION, TRACE_SHAPE, CHAPTER_ILLEGAL, LAWS_DIFFER, LIMITS_DIFFER, CHAPTERS_SPENT, WAITED_TOO_LONG}
+use Rattle.fleet_c.specs.declared.codes.TheConstants.{NO_MEMORY, NO_ROOM, BAD_SETUP, WRONG_SIZE, TRACE_NOT_JSON, TRACE_VERSION, TRACE_SHAPE, CHAPTER_ILLEGAL, LAWS_DIFFER, LIMITS_DIFFER, CHAPTERS_SPENT, WAITED_TOO_LONG}
 use Rattle.fleet_c.specs.declared.fault.Fault.{Fault}
 use Rattle.fleet_c.specs.declared.refusal.Refusal.TheVariants as refusal
 use Rattle.fleet_c.specs.declared.reopen_refusal.ReopenRefusal.{ReopenRefusal}
@@ -47,6 +48,7 @@ IsNotGoingOn m kept robots setup _ = ⊥
 abbrev pub DoesNotGoOnFrom : Floor → List ℕ → List Robot → Setup → ReopenRefusal → Type 0
 DoesNotGoOnFrom m text robots setup refused.NoMemory = Unit {0}
 DoesNotGoOnFrom m text robots setup (refused.Trace fault) = IsTraceFault text fault
+DoesNotGoOnFrom m text robots setup refused.NoRoom = ⊥
 DoesNotGoOnFrom m text robots setup why = (kept : Trace Global) × Tells text kept × IsNotGoingOn m kept robots setup why
 
 -- why no fleet goes on: the setup's form, the map's first fault, the text's fault, or the first reason in the chapter
@@ -72,10 +74,42 @@ reopen_fault_of (refused.Chapter chapter.Differs) = fault LIMITS_DIFFER 0 0
 reopen_fault_of (refused.Chapter chapter.Spent) = fault CHAPTERS_SPENT 0 0
 reopen_fault_of (refused.Chapter chapter.Waits) = fault WAITED_TOO_LONG 0 0
 reopen_fault_of (refused.Chapter chapter.NoMemory) = fault NO_MEMORY 0 0
+reopen_fault_of refused.NoRoom = fault NO_ROOM 0 0
 
 -- C is told why no fleet goes on
 pub record IsWhyNotReopened (bytes text : List ℕ) (robots : List Robot) (setup : Setup) (code : ℕ) (told : Fault) : Type 0 where
   pub why : ReopenRefusal
   pub is : IsNotReopened bytes text robots setup why
+  pub told_is : told ≡ reopen_fault_of why
+  pub code_is : code ≡ (reopen_fault_of why).code
+
+-- ---- fleets that take no errand to a cell that is not roomy
+
+-- the world that goes on has no unfinished errand to a cell that is not roomy
+pub record GoesOnRoomily {A : Type 0} (m : Floor) (text : List ℕ) (robots : List Robot) (setup : Setup) (w : World A) : Type 0 where
+  pub goes_on : GoesOnFrom m text robots setup w
+  pub roomy : AreOpenRoomy m w.history
+
+pub record IsReopenedRoomily {A : Type 0} (bytes text : List ℕ) (robots : List Robot) (setup : Setup) (w : World A) : Type 0 where
+  pub sized : IsSized setup
+  pub floor : Floor
+  pub reads : Reads bytes floor
+  pub goes_on : GoesOnRoomily floor text robots setup w
+
+-- as where any errand is taken; or a world would go on, with an unfinished errand to a cell that is not roomy
+abbrev pub DoesNotGoOnRoomily : Floor → List ℕ → List Robot → Setup → ReopenRefusal → Type 0
+DoesNotGoOnRoomily m text robots setup refused.NoRoom = (w : World Global) × GoesOnFrom m text robots setup w × (AreOpenRoomy m w.history → ⊥)
+DoesNotGoOnRoomily m text robots setup why = DoesNotGoOnFrom m text robots setup why
+
+abbrev pub IsNotReopenedRoomily : List ℕ → List ℕ → List Robot → Setup → ReopenRefusal → Type 0
+IsNotReopenedRoomily bytes text robots setup refused.NoMemory = Unit {0}
+IsNotReopenedRoomily bytes text robots setup refused.Size = setup.size ≢ SETUP_SIZE
+IsNotReopenedRoomily bytes text robots setup (refused.Map fault) = IsSized setup × IsFirstFault (lines_of bytes) fault
+IsNotReopenedRoomily bytes text robots setup why = IsSized setup × ((m : Floor) × Reads bytes m × DoesNotGoOnRoomily m text robots setup why)
+
+-- C is told why no such fleet goes on
+pub record IsWhyNotReopenedRoomily (bytes text : List ℕ) (robots : List Robot) (setup : Setup) (code : ℕ) (told : Fault) : Type 0 where
+  pub why : ReopenRefusal
+  pub is : IsNotReopenedRoomily bytes text robots setup why
   pub told_is : told ≡ reopen_fault_of why
   pub code_is : code ≡ (reopen_fault_of why).code

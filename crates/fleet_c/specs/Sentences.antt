@@ -13,7 +13,8 @@ call_text code =
     else if code == 5 then codes "there is no robot of this number"
     else if code == 15 then codes "a list has not the length that the call asks for"
     else if code == 16 then codes "a pointer is null"
-    else codes "there is no kind of orders of this number"
+    else if code == 17 then codes "there is no kind of orders of this number"
+    else codes "the cell is not roomy for the fleet's robots"
 
 abbrev pub fleet_text : ℕ → List ℕ
 fleet_text code =
@@ -72,7 +73,7 @@ is_in least end n = nat_le least n && nat_lt n end
 abbrev pub sentence_of : ℕ → List ℕ
 sentence_of code =
     if nat_lt code 6 then call_text code
-    else if is_in 15 18 code then call_text code
+    else if is_in 15 19 code then call_text code
     else if nat_lt code 15 then fleet_text code
     else if is_in 20 25 code then open_text code
     else if is_in 30 35 code then open_text code

@@ -62,10 +62,10 @@ pub extern "C" fn nashirudder_account_of(
     ensures says { OfFleet fleet.old.owned.held fleet.new.owned.held result (λ w. Accounts w client result account.new) }
     ensures untouched { (result ≢ DONE) → account.new ≡ account.old }
 {
-    let Some(core) = fleet.take(alloc) else {
+    let Some(held) = fleet.take(alloc) else {
         return NOT_OPEN;
     };
-    let code = tell_account(&core, client, account);
-    fleet.put(core);
+    let code = tell_account(&held.core, client, account);
+    fleet.put(held);
     code
 }

@@ -83,11 +83,11 @@ pub extern "C" fn nashirudder_next_chapter_into(
     ensures says { OnFleet fleet.old.owned.held fleet.new.owned.held result (λ w n. HandsOut w result chapter.old.owned.held chapter.new.owned.held n) }
     ensures untouched { (result ≢ DONE) → chapter.new.owned.held ≡ chapter.old.owned.held }
 {
-    let Some(mut core) = fleet.take(alloc) else {
+    let Some(mut held) = fleet.take(alloc) else {
         return NOT_OPEN;
     };
-    let code = hand_out_to(alloc, &mut core, chapter);
-    fleet.put(core);
+    let code = hand_out_to(alloc, &mut held.core, chapter);
+    fleet.put(held);
     code
 }
 

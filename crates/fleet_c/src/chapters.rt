@@ -64,11 +64,11 @@ pub extern "C" fn nashirudder_trace(
     ensures closed { (result ≡ NOT_OPEN) → length.new ≡ length.old }
     ensures memory { (result ≡ NO_MEMORY) → length.new ≡ length.old }
 {
-    let Some(core) = fleet.take(alloc) else {
+    let Some(held) = fleet.take(alloc) else {
         return NOT_OPEN;
     };
-    let code = trace_now(alloc, &core, text, length);
-    fleet.put(core);
+    let code = trace_now(alloc, &held.core, text, length);
+    fleet.put(held);
     code
 }
 
@@ -79,11 +79,11 @@ pub extern "C" fn nashirudder_trace(
 pub extern "C" fn nashirudder_next_chapter(alloc: Global, fleet: &mut Handle) -> u32
     ensures { OnFleet fleet.old.owned.held fleet.new.owned.held result (λ w n. IsTurned w result n) }
 {
-    let Some(mut core) = fleet.take(alloc) else {
+    let Some(mut held) = fleet.take(alloc) else {
         return NOT_OPEN;
     };
-    let code = turn(&mut core);
-    fleet.put(core);
+    let code = turn(&mut held.core);
+    fleet.put(held);
     code
 }
 
@@ -92,10 +92,10 @@ pub extern "C" fn nashirudder_next_chapter(alloc: Global, fleet: &mut Handle) ->
 pub extern "C" fn nashirudder_keep(alloc: Global, fleet: &mut Handle, bytes: usize) -> u32
     ensures { OnFleet fleet.old.owned.held fleet.new.owned.held result (λ w n. (result ≡ DONE) × (n ≡ w)) }
 {
-    let Some(mut core) = fleet.take(alloc) else {
+    let Some(mut held) = fleet.take(alloc) else {
         return NOT_OPEN;
     };
-    core.keep(bytes);
-    fleet.put(core);
+    held.core.keep(bytes);
+    fleet.put(held);
     DONE
 }

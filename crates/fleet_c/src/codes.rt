@@ -37,6 +37,8 @@ pub const WRONG_LENGTH: u32 = 15;
 pub const NULL_POINTER: u32 = 16;
 /// There is no kind of orders with this number.
 pub const BAD_ORDER: u32 = 17;
+/// The cell is not roomy for the fleet's robots. Of a fleet that goes on: that of an unfinished errand.
+pub const NO_ROOM: u32 = 18;
 
 /// The line of the map's head is missing or not in its form.
 pub const MAP_HEADER: u32 = 20;

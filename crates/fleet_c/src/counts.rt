@@ -30,11 +30,11 @@ pub extern "C" fn nashirudder_robots(alloc: Global, fleet: &mut Handle, count: &
     ensures says { OfFleet fleet.old.owned.held fleet.new.owned.held result (λ w. (result ≡ DONE) × (count.new ≡ robots w.history)) }
     ensures untouched { (result ≢ DONE) → count.new ≡ count.old }
 {
-    let Some(core) = fleet.take(alloc) else {
+    let Some(held) = fleet.take(alloc) else {
         return NOT_OPEN;
     };
-    *count = core.robots();
-    fleet.put(core);
+    *count = held.core.robots();
+    fleet.put(held);
     DONE
 }
 
@@ -44,11 +44,11 @@ pub extern "C" fn nashirudder_clients(alloc: Global, fleet: &mut Handle, count: 
     ensures says { OfFleet fleet.old.owned.held fleet.new.owned.held result (λ w. (result ≡ DONE) × (count.new ≡ clients w.history)) }
     ensures untouched { (result ≢ DONE) → count.new ≡ count.old }
 {
-    let Some(core) = fleet.take(alloc) else {
+    let Some(held) = fleet.take(alloc) else {
         return NOT_OPEN;
     };
-    *count = core.clients();
-    fleet.put(core);
+    *count = held.core.clients();
+    fleet.put(held);
     DONE
 }
 
@@ -58,10 +58,10 @@ pub extern "C" fn nashirudder_limits(alloc: Global, fleet: &mut Handle, setup: &
     ensures says { OfFleet fleet.old.owned.held fleet.new.owned.held result (λ w. (result ≡ DONE) × HasLimits w setup.new) }
     ensures untouched { (result ≢ DONE) → setup.new ≡ setup.old }
 {
-    let Some(core) = fleet.take(alloc) else {
+    let Some(held) = fleet.take(alloc) else {
         return NOT_OPEN;
     };
-    *setup = setup_of(&core);
-    fleet.put(core);
+    *setup = setup_of(&held.core);
+    fleet.put(held);
     DONE
 }

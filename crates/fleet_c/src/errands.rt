@@ -189,11 +189,11 @@ pub extern "C" fn nashirudder_open_errands(
     ensures untouched { (result ≢ DONE) → errands.new ≡ errands.old }
     ensures uncounted { (result ≢ DONE) → (result ≢ WRONG_LENGTH) → count.new ≡ count.old }
 {
-    let Some(core) = fleet.take(alloc) else {
+    let Some(held) = fleet.take(alloc) else {
         return NOT_OPEN;
     };
-    let code = list_open(alloc, &core, client, errands, count);
-    fleet.put(core);
+    let code = list_open(alloc, &held.core, client, errands, count);
+    fleet.put(held);
     code
 }
 
@@ -214,10 +214,10 @@ pub extern "C" fn nashirudder_queue(
     ensures untouched { (result ≢ DONE) → errands.new ≡ errands.old }
     ensures uncounted { (result ≢ DONE) → (result ≢ WRONG_LENGTH) → count.new ≡ count.old }
 {
-    let Some(core) = fleet.take(alloc) else {
+    let Some(held) = fleet.take(alloc) else {
         return NOT_OPEN;
     };
-    let code = list_queue(alloc, &core, robot, errands, count);
-    fleet.put(core);
+    let code = list_queue(alloc, &held.core, robot, errands, count);
+    fleet.put(held);
     code
 }

@@ -2,8 +2,8 @@
 
 ghost use Rattle.std.specs.Prelude.{◌≡◌, Option, None, Some, is_some, MatchOption, true, false};
 
+use crate::fleet::Fleet;
 use crate::owned::Owned;
-use fleet_core::Core;
 use std::alloc::Global;
 
 /// The handle that C holds: all zero, or the bytes that one of the exports left there.
@@ -34,7 +34,7 @@ impl Handle {
     }
 
     /// Takes the value out, and leaves the handle closed.
-    pub fn take(&mut self, alloc: Global) -> Option<Box<Core>>
+    pub fn take(&mut self, alloc: Global) -> Option<Box<Fleet>>
         ensures closed { self.new.owned.held ≡ None }
         ensures taken { MatchOption result (self.old.owned.held ≡ None) (λ b. self.old.owned.held ≡ Some b.value) }
     {
@@ -47,7 +47,7 @@ impl Handle {
     }
 
     /// Puts a value into a closed handle, which is then open.
-    pub fn put(&mut self, held: Box<Core>)
+    pub fn put(&mut self, held: Box<Fleet>)
         requires { is_some self.old.owned.held ≡ false }
         ensures { self.new.owned.held ≡ Some held.value }
     {

@@ -1,8 +1,9 @@
 //! Fleets are opened and closed.
 
-ghost use Rattle.std.specs.Prelude.{◌≡◌, ◌≢◌, ◌↔◌, ◌^◌, None, is_some, true, IsSomeAnd};
+ghost use Rattle.std.specs.Prelude.{◌≡◌, ◌≢◌, ◌↔◌, ◌^◌, None, is_some, false, true, IsSomeAnd};
 ghost use Rattle.fleet_c.specs.Forms.{limits_of};
 ghost use Rattle.fleet_c.specs.Opening.{IsOpened, IsWhy};
+ghost use Rattle.fleet_c.specs.Roomy.{Refuses};
 
 use crate::codes::{ALREADY_OPEN, DONE};
 use crate::fault::Fault;
@@ -59,7 +60,7 @@ pub extern "C" fn nashirudder_open(
     fault: &mut Fault,
 ) -> u32
     ensures open { (result ≡ ALREADY_OPEN) ↔ (is_some fleet.old.owned.held ≡ true) }
-    ensures opened { (result ≡ DONE) → IsSomeAnd fleet.new.owned.held (λ w. IsOpened map.now robots.now setup.now w) }
+    ensures opened { (result ≡ DONE) → IsSomeAnd fleet.new.owned.held (λ f. IsOpened map.now robots.now setup.now f.core × Refuses false f) }
     ensures refused { (result ≢ DONE) → (result ≢ ALREADY_OPEN) → IsWhy map.now robots.now setup.now result fault.new }
     ensures same { (result ≢ DONE) → fleet.new.owned.held ≡ fleet.old.owned.held }
     ensures untouched { (result ≡ ALREADY_OPEN) → fault.new ≡ fault.old }
@@ -67,9 +68,9 @@ pub extern "C" fn nashirudder_open(
     if fleet.is_open() {
         return ALREADY_OPEN;
     }
-    match open_on(alloc, map, robots, setup) {
-        Ok(core) => {
-            fleet.put(core);
+    match open_on(alloc, false, map, robots, setup) {
+        Ok(opened) => {
+            fleet.put(opened);
             DONE
         }
         Err(why) => {

@@ -117,11 +117,11 @@ pub extern "C" fn nashirudder_give(
     ensures says { OnFleet fleet.old.owned.held fleet.new.owned.held result (λ w n. Gives w client result note.new n) }
     ensures untouched { (result ≢ DONE) → note.new ≡ note.old }
 {
-    let Some(mut core) = fleet.take(alloc) else {
+    let Some(mut held) = fleet.take(alloc) else {
         return NOT_OPEN;
     };
-    let code = give(&mut core, client, note);
-    fleet.put(core);
+    let code = give(&mut held.core, client, note);
+    fleet.put(held);
     code
 }
 
@@ -141,11 +141,11 @@ pub extern "C" fn nashirudder_give_many(
     ensures untouched { (result ≢ DONE) → count.new ≡ count.old }
     ensures unwritten { (result ≢ DONE) → notes.new ≡ notes.old }
 {
-    let Some(mut core) = fleet.take(alloc) else {
+    let Some(mut held) = fleet.take(alloc) else {
         return NOT_OPEN;
     };
-    let code = give_many(&mut core, client, notes, count);
-    fleet.put(core);
+    let code = give_many(&mut held.core, client, notes, count);
+    fleet.put(held);
     code
 }
 
@@ -162,11 +162,11 @@ pub extern "C" fn nashirudder_peek(
     ensures says { OfFleet fleet.old.owned.held fleet.new.owned.held result (λ w. Peeks w client result note.new) }
     ensures untouched { (result ≢ DONE) → note.new ≡ note.old }
 {
-    let Some(core) = fleet.take(alloc) else {
+    let Some(held) = fleet.take(alloc) else {
         return NOT_OPEN;
     };
-    let code = peek(&core, client, note);
-    fleet.put(core);
+    let code = peek(&held.core, client, note);
+    fleet.put(held);
     code
 }
 
@@ -183,11 +183,11 @@ pub extern "C" fn nashirudder_pending_count(
     ensures says { OfFleet fleet.old.owned.held fleet.new.owned.held result (λ w. Counts w client result count.new) }
     ensures untouched { (result ≢ DONE) → count.new ≡ count.old }
 {
-    let Some(core) = fleet.take(alloc) else {
+    let Some(held) = fleet.take(alloc) else {
         return NOT_OPEN;
     };
-    let code = pending_count(&core, client, count);
-    fleet.put(core);
+    let code = pending_count(&held.core, client, count);
+    fleet.put(held);
     code
 }
 
@@ -204,10 +204,10 @@ pub extern "C" fn nashirudder_widen(
 ) -> u32
     ensures { OnFleet fleet.old.owned.held fleet.new.owned.held result (λ w n. Widens w client extra result n) }
 {
-    let Some(mut core) = fleet.take(alloc) else {
+    let Some(mut held) = fleet.take(alloc) else {
         return NOT_OPEN;
     };
-    let code = widen(&mut core, client, extra);
-    fleet.put(core);
+    let code = widen(&mut held.core, client, extra);
+    fleet.put(held);
     code
 }

@@ -1,13 +1,15 @@
 //! A fleet at its opening.
 
-ghost use Rattle.std.specs.Prelude.{◌≡◌, IfOk, IfErr, map};
+ghost use Rattle.std.specs.Prelude.{◌≡◌, IfOk, IfErr, length, map, min};
 ghost use Rattle.std.specs.Box.{box_value};
 ghost use Rattle.fleet_core.specs.Hooks.{laws_of};
 ghost use Rattle.fleet_map.specs.Text.{lines_of};
 ghost use Rattle.fleet_map.specs.FirstFault.{IsFirstFault};
 ghost use Rattle.fleet_c.specs.Forms.{starts_of, laws_of_robots};
 ghost use Rattle.fleet_c.specs.Opening.{Reads, IsAtOpening, IsOpened, IsRefusal, IsRefusedOn};
+ghost use Rattle.fleet_c.specs.Roomy.{AreRefused, Refuses};
 
+use crate::fleet::Fleet;
 use crate::refusal::Refusal;
 use crate::robot::Robot;
 use crate::setup::{SETUP_SIZE, Setup};
@@ -15,6 +17,7 @@ use fleet_core::{Core, OpenFault, World};
 use fleet_grid::Grid;
 use fleet_hooks::{ArrivalHook, Farewell, Hooks, TieHook};
 use fleet_map::{MapFault, read_map};
+use fleet_roomy::{UnroomyCells, unroomy_cells};
 use std::alloc::{AllocError, Global};
 
 /// The floor of a map's text.
@@ -89,14 +92,53 @@ fn opened(
     core_of(alloc, grid, starts, robots, setup, hooks)
 }
 
-/// The core of a fleet that is opened on a map, in a box.
+/// A number of robots: a fleet has at most 512.
+pub(crate) fn counted(robots: &[Robot]) -> u32
+    ensures { result ≡ min (length robots.now) 4294967295 }
+{
+    u32::try_from(robots.len()).unwrap_or(u32::MAX)
+}
+
+/// The cells that a fleet of this many robots refuses: if `roomy`, the floor cells that are not roomy for them, and else none.
+fn refused_of(
+    alloc: Global,
+    roomy: bool,
+    grid: &Grid,
+    robots: u32,
+) -> Result<UnroomyCells, AllocError>
+    ensures { IfOk result (λ cells. AreRefused roomy grid.now robots cells.marks.items) }
+{
+    if roomy {
+        unroomy_cells(alloc, grid, robots)
+    } else {
+        Ok(UnroomyCells::none(alloc))
+    }
+}
+
+/// A fleet, in a box.
+pub(crate) fn boxed(
+    alloc: Global,
+    core: Core,
+    refused: UnroomyCells,
+) -> Result<Box<Fleet>, AllocError>
+    ensures { IfOk result (λ fleet. (box_value fleet).core ≡ core × (box_value fleet).refused ≡ refused) }
+{
+    match Box::new(alloc, Fleet { core, refused }) {
+        Ok(boxed) => Ok(boxed),
+        Err(_) => Err(AllocError),
+    }
+}
+
+/// A fleet that is opened on a map, in a box. If `roomy`, it refuses errands to cells that are not roomy for its robots.
 pub(crate) fn open_on(
     alloc: Global,
+    roomy: bool,
     map: &[u8],
     robots: &[Robot],
     setup: &Setup,
-) -> Result<Box<Core>, Refusal>
-    ensures ok { IfOk result (λ core. IsOpened map.now robots.now setup.now (box_value core)) }
+) -> Result<Box<Fleet>, Refusal>
+    ensures ok { IfOk result (λ fleet. IsOpened map.now robots.now setup.now (box_value fleet).core) }
+    ensures refused { IfOk result (λ fleet. Refuses roomy (box_value fleet)) }
     ensures err { IfErr result (λ why. IsRefusal map.now robots.now setup.now why) }
 {
     if setup.size != SETUP_SIZE {
@@ -107,9 +149,7 @@ pub(crate) fn open_on(
         Ok(grid) => grid,
         Err(fault) => return Err(Refusal::Map(fault)),
     };
+    let refused = refused_of(alloc, roomy, &grid, counted(robots))?;
     let core = opened(alloc, grid, starts, robots, setup)?;
-    match Box::new(alloc, core) {
-        Ok(boxed) => Ok(boxed),
-        Err(_) => Err(Refusal::NoMemory),
-    }
+    Ok(boxed(alloc, core, refused)?)
 }

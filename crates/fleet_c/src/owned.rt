@@ -1,14 +1,14 @@
-//! A pointer that owns a core, or nothing.
+//! A pointer that owns a fleet, or nothing.
 
 ghost use Rattle.std.specs.Prelude.{◌≡◌, Option, None, Some, IsSome};
 ghost use Rattle.fleet_c.specs.Owns.{HeldValue, owned_code, owns};
 
+use crate::fleet::Fleet;
 use crate::parts::Parts;
-use fleet_core::Core;
 use std::alloc::Global;
 use std::marker::Model;
 
-/// A pointer that owns a core, or nothing.
+/// A pointer that owns a fleet, or nothing.
 #[repr(C)]
 #[derive(Drop)]
 pub struct Owned {
@@ -23,14 +23,14 @@ impl Model for Owned {
 
 impl Owned {
     /// One that owns what the box owned.
-    pub fn of(held: Box<Core>) -> Owned
+    pub fn of(held: Box<Fleet>) -> Owned
         ensures { result.held ≡ Some held.value }
     {
         Owned::of_parts(Parts::of(held))
     }
 
     /// The box of what it owns.
-    pub fn into_box(self) -> Box<Core>
+    pub fn into_box(self) -> Box<Fleet>
         requires { IsSome self.held }
         ensures { self.held ≡ Some result.value }
     {
@@ -47,7 +47,7 @@ impl Owned {
         }
     }
 
-    fn of_parts(parts: Parts<Core, Global>) -> Owned
+    fn of_parts(parts: Parts<Fleet, Global>) -> Owned
         ensures { result.held ≡ Some parts.value }
     {
         let Parts { ptr, alloc } = parts;
@@ -57,13 +57,13 @@ impl Owned {
         }
     }
 
-    fn into_parts(self) -> Parts<Core, Global>
+    fn into_parts(self) -> Parts<Fleet, Global>
         requires { IsSome self.held }
         ensures { self.held ≡ Some result.value }
     {
         let Owned { at, alloc } = self;
         Parts {
-            ptr: at as *mut Core,
+            ptr: at as *mut Fleet,
             alloc,
         }
     }

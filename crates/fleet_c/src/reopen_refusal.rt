@@ -4,7 +4,7 @@ ghost use Rattle.std.specs.Prelude.{◌≡◌};
 ghost use Rattle.fleet_c.specs.Reopened.{reopen_fault_of};
 
 use crate::codes::{
-    BAD_SETUP, CHAPTER_ILLEGAL, CHAPTERS_SPENT, LAWS_DIFFER, LIMITS_DIFFER, NO_MEMORY,
+    BAD_SETUP, CHAPTER_ILLEGAL, CHAPTERS_SPENT, LAWS_DIFFER, LIMITS_DIFFER, NO_MEMORY, NO_ROOM,
     TRACE_NOT_JSON, TRACE_SHAPE, TRACE_VERSION, WAITED_TOO_LONG, WRONG_SIZE,
 };
 use crate::fault::Fault;
@@ -12,6 +12,7 @@ use crate::refusal::{map_fault, two};
 use fleet_map::MapFault;
 use fleet_reopen::ReopenFault;
 use fleet_trace::TraceFault;
+use std::alloc::AllocError;
 
 /// Why a fleet does not go on from a kept chapter; the first reason that holds is returned.
 #[derive(Clone, Copy)]
@@ -26,6 +27,8 @@ pub enum ReopenRefusal {
     Trace(TraceFault),
     /// No fleet goes on from the chapter.
     Chapter(ReopenFault),
+    /// An unfinished errand goes to a cell that is not roomy, and the fleet takes no such errand.
+    NoRoom,
 }
 
 fn trace_fault(why: TraceFault) -> Fault
@@ -64,6 +67,18 @@ impl ReopenRefusal {
             ReopenRefusal::Map(why) => map_fault(why),
             ReopenRefusal::Trace(why) => trace_fault(why),
             ReopenRefusal::Chapter(why) => chapter_fault(why),
+            ReopenRefusal::NoRoom => two(NO_ROOM, 0, 0),
         }
+    }
+}
+
+impl From<AllocError> for ReopenRefusal {
+    ghost use Rattle.std.specs.Prelude.{◌≡◌};
+    ghost use Rattle.fleet_c.specs.declared.reopen_refusal.ReopenRefusal.TheVariants.{NoMemory};
+
+    ghost from_gives = { λ _ e. e ≡ NoMemory };
+
+    fn from(_e: AllocError) -> ReopenRefusal {
+        ReopenRefusal::NoMemory
     }
 }

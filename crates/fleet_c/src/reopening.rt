@@ -1,23 +1,28 @@
 //! A fleet that goes on from a kept chapter.
 
-ghost use Rattle.std.specs.Prelude.{◌≡◌, ◌≢◌, ◌↔◌, IfOk, IfErr, IsSomeAnd, is_some, true};
+ghost use Rattle.std.specs.Prelude.{◌≡◌, ◌≢◌, ◌↔◌, IfOk, IfErr, IsSomeAnd, is_some, false, true};
 ghost use Rattle.std.specs.Box.{box_value};
 ghost use Rattle.fleet_trace.specs.Trace.{trace_of};
+ghost use Rattle.fleet_bridge.specs.Roominess.{AreRoomyFor};
 ghost use Rattle.fleet_c.specs.Forms.{laws_of_robots};
-ghost use Rattle.fleet_c.specs.Reopened.{IsGoingOn, IsNotGoingOn, GoesOnFrom, DoesNotGoOnFrom, IsReopened, IsNotReopened, IsWhyNotReopened};
+ghost use Rattle.fleet_c.specs.Roomy.{AreRefused, Refuses};
+ghost use Rattle.fleet_c.specs.Reopened.{IsGoingOn, IsNotGoingOn, GoesOnFrom, GoesOnRoomily, DoesNotGoOnFrom, DoesNotGoOnRoomily, IsReopened, IsReopenedRoomily, IsNotReopened, IsNotReopenedRoomily, IsWhyNotReopened};
 
 use crate::codes::{ALREADY_OPEN, DONE};
 use crate::fault::Fault;
+use crate::fleet::Fleet;
 use crate::handle::Handle;
-use crate::opening::grid_of;
+use crate::opening::{boxed, counted, grid_of};
 use crate::reopen_refusal::ReopenRefusal;
 use crate::robot::Robot;
 use crate::setup::{SETUP_SIZE, Setup};
+use fleet_bridge::roominess;
 use fleet_core::{Core, HookLaws};
 use fleet_grid::Grid;
 use fleet_history::Chapter;
 use fleet_hooks::{ArrivalHook, Farewell, Hooks, TieHook};
 use fleet_reopen::reopen;
+use fleet_roomy::{UnroomyCells, unroomy_by};
 use fleet_trace::read_trace;
 use std::alloc::{AllocError, Global};
 use std::mem;
@@ -83,15 +88,69 @@ fn core_from(
     }
 }
 
-/// The core of the fleet that goes on, in a box.
+/// How roomy each cell of a map is, and the cells that a fleet refuses for it.
+#[derive(Drop)]
+struct Rooms {
+    most: Vec<u32>,
+    refused: UnroomyCells,
+}
+
+/// Those of a fleet of this many robots.
+fn rooms_of(alloc: Global, grid: &Grid, robots: u32) -> Result<Rooms, AllocError>
+    ensures most { IfOk result (λ rooms. AreRoomyFor grid.now rooms.most.items) }
+    ensures refused { IfOk result (λ rooms. AreRefused true grid.now robots rooms.refused.marks.items) }
+{
+    let most = roominess(alloc, grid)?;
+    let refused = unroomy_by(alloc, grid, &most, robots)?;
+    Ok(Rooms { most, refused })
+}
+
+/// The fleet that goes on from the text of a chapter, in a box.
+fn fleet_from(
+    alloc: Global,
+    grid: Grid,
+    text: &[u8],
+    robots: &[Robot],
+    setup: &Setup,
+) -> Result<Box<Fleet>, ReopenRefusal>
+    ensures ok { IfOk result (λ fleet. GoesOnFrom grid text.now robots.now setup.now (box_value fleet).core × Refuses false (box_value fleet)) }
+    ensures err { IfErr result (λ why. DoesNotGoOnFrom grid text.now robots.now setup.now why) }
+{
+    let core = core_from(alloc, grid, text, robots, setup)?;
+    Ok(boxed(alloc, core, UnroomyCells::none(alloc))?)
+}
+
+/// The same, but if an unfinished errand goes to a cell that is not roomy no fleet goes on, and it takes no such errand.
+fn roomy_fleet_from(
+    alloc: Global,
+    grid: Grid,
+    text: &[u8],
+    robots: &[Robot],
+    setup: &Setup,
+) -> Result<Box<Fleet>, ReopenRefusal>
+    ensures ok { IfOk result (λ fleet. GoesOnRoomily grid text.now robots.now setup.now (box_value fleet).core × Refuses true (box_value fleet)) }
+    ensures err { IfErr result (λ why. DoesNotGoOnRoomily grid text.now robots.now setup.now why) }
+{
+    let Ok(rooms) = rooms_of(alloc, &grid, counted(robots)) else {
+        mem::drop(grid);
+        return Err(ReopenRefusal::NoMemory);
+    };
+    let core = core_from(alloc, grid, text, robots, setup)?;
+    if !core.are_roomy(&rooms.most) {
+        return Err(ReopenRefusal::NoRoom);
+    }
+    Ok(boxed(alloc, core, rooms.refused)?)
+}
+
+/// The fleet that goes on, in a box.
 fn reopen_on(
     alloc: Global,
     map: &[u8],
     text: &[u8],
     robots: &[Robot],
     setup: &Setup,
-) -> Result<Box<Core>, ReopenRefusal>
-    ensures ok { IfOk result (λ core. IsReopened map.now text.now robots.now setup.now (box_value core)) }
+) -> Result<Box<Fleet>, ReopenRefusal>
+    ensures ok { IfOk result (λ fleet. IsReopened map.now text.now robots.now setup.now (box_value fleet).core × Refuses false (box_value fleet)) }
     ensures err { IfErr result (λ why. IsNotReopened map.now text.now robots.now setup.now why) }
 {
     if setup.size != SETUP_SIZE {
@@ -101,11 +160,28 @@ fn reopen_on(
         Ok(grid) => grid,
         Err(fault) => return Err(ReopenRefusal::Map(fault)),
     };
-    let core = core_from(alloc, grid, text, robots, setup)?;
-    match Box::new(alloc, core) {
-        Ok(boxed) => Ok(boxed),
-        Err(_) => Err(ReopenRefusal::NoMemory),
+    fleet_from(alloc, grid, text, robots, setup)
+}
+
+/// The same of a fleet that takes no errand to a cell that is not roomy.
+pub(crate) fn reopen_roomy_on(
+    alloc: Global,
+    map: &[u8],
+    text: &[u8],
+    robots: &[Robot],
+    setup: &Setup,
+) -> Result<Box<Fleet>, ReopenRefusal>
+    ensures ok { IfOk result (λ fleet. IsReopenedRoomily map.now text.now robots.now setup.now (box_value fleet).core × Refuses true (box_value fleet)) }
+    ensures err { IfErr result (λ why. IsNotReopenedRoomily map.now text.now robots.now setup.now why) }
+{
+    if setup.size != SETUP_SIZE {
+        return Err(ReopenRefusal::Size);
     }
+    let grid = match grid_of(alloc, map) {
+        Ok(grid) => grid,
+        Err(fault) => return Err(ReopenRefusal::Map(fault)),
+    };
+    roomy_fleet_from(alloc, grid, text, robots, setup)
 }
 
 /// Opens a closed handle: the fleet that goes on from a chapter that was kept, the text of `nashirudder_trace` at its
@@ -128,7 +204,7 @@ pub extern "C" fn nashirudder_reopen(
     fault: &mut Fault,
 ) -> u32
     ensures open { (result ≡ ALREADY_OPEN) ↔ (is_some fleet.old.owned.held ≡ true) }
-    ensures reopened { (result ≡ DONE) → IsSomeAnd fleet.new.owned.held (λ w. IsReopened map.now text.now robots.now setup.now w) }
+    ensures reopened { (result ≡ DONE) → IsSomeAnd fleet.new.owned.held (λ f. IsReopened map.now text.now robots.now setup.now f.core × Refuses false f) }
     ensures refused { (result ≢ DONE) → (result ≢ ALREADY_OPEN) → IsWhyNotReopened map.now text.now robots.now setup.now result fault.new }
     ensures same { (result ≢ DONE) → fleet.new.owned.held ≡ fleet.old.owned.held }
     ensures untouched { (result ≡ ALREADY_OPEN) → fault.new ≡ fault.old }
@@ -137,8 +213,8 @@ pub extern "C" fn nashirudder_reopen(
         return ALREADY_OPEN;
     }
     match reopen_on(alloc, map, text, robots, setup) {
-        Ok(core) => {
-            fleet.put(core);
+        Ok(opened) => {
+            fleet.put(opened);
             DONE
         }
         Err(why) => {

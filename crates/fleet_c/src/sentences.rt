@@ -17,7 +17,8 @@ fn call_text(code: u32) -> &'static str
         5 => "there is no robot of this number",
         15 => "a list has not the length that the call asks for",
         16 => "a pointer is null",
-        _ => "there is no kind of orders of this number",
+        17 => "there is no kind of orders of this number",
+        _ => "the cell is not roomy for the fleet's robots",
     }
 }
 
@@ -103,7 +104,7 @@ pub(crate) fn sentence_of(code: u32) -> &'static str
     ensures text { result.now ≡ sentence_of code }
     ensures short { length result.now ≤ 120 }
 {
-    if code < 6 || (15 <= code && code < 18) {
+    if code < 6 || (15 <= code && code < 19) {
         call_text(code)
     } else if code < 15 {
         fleet_text(code)

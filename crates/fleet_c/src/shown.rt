@@ -173,10 +173,10 @@ pub extern "C" fn nashirudder_tick_into(
     ensures untouched { (result ≢ DONE) → report.new ≡ report.old }
     ensures unwritten { (result ≢ DONE) → lists cells.new arrivals.new farewells.new ≡ lists cells.old arrivals.old farewells.old }
 {
-    let Some(mut core) = fleet.take(alloc) else {
+    let Some(mut held) = fleet.take(alloc) else {
         return NOT_OPEN;
     };
-    let code = tick_into(alloc, &mut core, report, cells, arrivals, farewells);
-    fleet.put(core);
+    let code = tick_into(alloc, &mut held.core, report, cells, arrivals, farewells);
+    fleet.put(held);
     code
 }

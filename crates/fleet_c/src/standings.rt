@@ -153,10 +153,10 @@ pub extern "C" fn nashirudder_standings(
     ensures says { OfFleet fleet.old.owned.held fleet.new.owned.held result (λ w. HasStandings w result standings.old standings.new) }
     ensures untouched { (result ≢ DONE) → standings.new ≡ standings.old }
 {
-    let Some(core) = fleet.take(alloc) else {
+    let Some(held) = fleet.take(alloc) else {
         return NOT_OPEN;
     };
-    let code = list_standings(alloc, &core, standings);
-    fleet.put(core);
+    let code = list_standings(alloc, &held.core, standings);
+    fleet.put(held);
     code
 }

@@ -67,11 +67,11 @@ pub extern "C" fn nashirudder_tick(alloc: Global, fleet: &mut Handle, report: &m
     ensures says { OnFleet fleet.old.owned.held fleet.new.owned.held result (λ w n. IsTicked w result report.new n) }
     ensures untouched { (result ≢ DONE) → report.new ≡ report.old }
 {
-    let Some(mut core) = fleet.take(alloc) else {
+    let Some(mut held) = fleet.take(alloc) else {
         return NOT_OPEN;
     };
-    let code = tick(alloc, &mut core, report);
-    fleet.put(core);
+    let code = tick(alloc, &mut held.core, report);
+    fleet.put(held);
     code
 }
 
@@ -90,10 +90,10 @@ pub extern "C" fn nashirudder_shut(
     ensures says { OnFleet fleet.old.owned.held fleet.new.owned.held result (λ w n. IsShut w robot result left.new n) }
     ensures untouched { (result ≢ DONE) → left.new ≡ left.old }
 {
-    let Some(mut core) = fleet.take(alloc) else {
+    let Some(mut held) = fleet.take(alloc) else {
         return NOT_OPEN;
     };
-    let code = shut_robot(alloc, &mut core, robot, left);
-    fleet.put(core);
+    let code = shut_robot(alloc, &mut held.core, robot, left);
+    fleet.put(held);
     code
 }

@@ -106,11 +106,11 @@ pub extern "C" fn nashirudder_placement(alloc: Global, fleet: &mut Handle, cells
     ensures says { OfFleet fleet.old.owned.held fleet.new.owned.held result (λ w. Places w result cells.old cells.new) }
     ensures untouched { (result ≢ DONE) → cells.new ≡ cells.old }
 {
-    let Some(core) = fleet.take(alloc) else {
+    let Some(held) = fleet.take(alloc) else {
         return NOT_OPEN;
     };
-    let code = placement(&core, cells);
-    fleet.put(core);
+    let code = placement(&held.core, cells);
+    fleet.put(held);
     code
 }
 
@@ -120,11 +120,11 @@ pub extern "C" fn nashirudder_clock(alloc: Global, fleet: &mut Handle, ticks: &m
     ensures says { OfFleet fleet.old.owned.held fleet.new.owned.held result (λ w. (result ≡ DONE) × (ticks.new ≡ clock w.history)) }
     ensures untouched { (result ≢ DONE) → ticks.new ≡ ticks.old }
 {
-    let Some(core) = fleet.take(alloc) else {
+    let Some(held) = fleet.take(alloc) else {
         return NOT_OPEN;
     };
-    *ticks = core.clock();
-    fleet.put(core);
+    *ticks = held.core.clock();
+    fleet.put(held);
     DONE
 }
 
@@ -141,11 +141,11 @@ pub extern "C" fn nashirudder_wait_of(
     ensures says { OfFleet fleet.old.owned.held fleet.new.owned.held result (λ w. Waits w robot result ticks.new) }
     ensures untouched { (result ≢ DONE) → ticks.new ≡ ticks.old }
 {
-    let Some(core) = fleet.take(alloc) else {
+    let Some(held) = fleet.take(alloc) else {
         return NOT_OPEN;
     };
-    let code = wait_of(&core, robot, ticks);
-    fleet.put(core);
+    let code = wait_of(&held.core, robot, ticks);
+    fleet.put(held);
     code
 }
 
@@ -157,11 +157,11 @@ pub extern "C" fn nashirudder_eldest(alloc: Global, fleet: &mut Handle, robot: &
     ensures says { OfFleet fleet.old.owned.held fleet.new.owned.held result (λ w. HasEldest w result robot.new) }
     ensures untouched { (result ≢ DONE) → robot.new ≡ robot.old }
 {
-    let Some(core) = fleet.take(alloc) else {
+    let Some(held) = fleet.take(alloc) else {
         return NOT_OPEN;
     };
-    let code = eldest(&core, robot);
-    fleet.put(core);
+    let code = eldest(&held.core, robot);
+    fleet.put(held);
     code
 }
 
@@ -177,11 +177,11 @@ pub extern "C" fn nashirudder_longest_wait(
     ensures says { OfFleet fleet.old.owned.held fleet.new.owned.held result (λ w. HasLongest w result ticks.new) }
     ensures untouched { (result ≢ DONE) → ticks.new ≡ ticks.old }
 {
-    let Some(core) = fleet.take(alloc) else {
+    let Some(held) = fleet.take(alloc) else {
         return NOT_OPEN;
     };
-    let code = longest_wait(&core, ticks);
-    fleet.put(core);
+    let code = longest_wait(&held.core, ticks);
+    fleet.put(held);
     code
 }
 
@@ -191,11 +191,11 @@ pub extern "C" fn nashirudder_is_idle(alloc: Global, fleet: &mut Handle, is_idle
     ensures says { OfFleet fleet.old.owned.held fleet.new.owned.held result (λ w. (result ≡ DONE) × (IsTrue is_idle.new ↔ IsIdle w.history)) }
     ensures untouched { (result ≢ DONE) → is_idle.new ≡ is_idle.old }
 {
-    let Some(core) = fleet.take(alloc) else {
+    let Some(held) = fleet.take(alloc) else {
         return NOT_OPEN;
     };
-    *is_idle = core.is_idle();
-    fleet.put(core);
+    *is_idle = held.core.is_idle();
+    fleet.put(held);
     DONE
 }
 
@@ -207,11 +207,11 @@ pub extern "C" fn nashirudder_idle_within(alloc: Global, fleet: &mut Handle, tic
     ensures says { OfFleet fleet.old.owned.held fleet.new.owned.held result (λ w. HasIdle w result ticks.new) }
     ensures untouched { (result ≢ DONE) → ticks.new ≡ ticks.old }
 {
-    let Some(core) = fleet.take(alloc) else {
+    let Some(held) = fleet.take(alloc) else {
         return NOT_OPEN;
     };
-    let code = idle_within(&core, ticks);
-    fleet.put(core);
+    let code = idle_within(&held.core, ticks);
+    fleet.put(held);
     code
 }
 
@@ -223,11 +223,11 @@ pub extern "C" fn nashirudder_wait_limit(alloc: Global, fleet: &mut Handle, tick
     ensures says { OfFleet fleet.old.owned.held fleet.new.owned.held result (λ w. HasLimit w result ticks.new) }
     ensures untouched { (result ≢ DONE) → ticks.new ≡ ticks.old }
 {
-    let Some(core) = fleet.take(alloc) else {
+    let Some(held) = fleet.take(alloc) else {
         return NOT_OPEN;
     };
-    let code = wait_limit(&core, ticks);
-    fleet.put(core);
+    let code = wait_limit(&held.core, ticks);
+    fleet.put(held);
     code
 }
 
@@ -241,10 +241,10 @@ pub extern "C" fn nashirudder_is_bridgeless(
     ensures says { OfFleet fleet.old.owned.held fleet.new.owned.held result (λ w. (result ≡ DONE) × (IsTrue is_bridgeless.new ↔ IsBridgeless (IsNeighbour w.floor))) }
     ensures untouched { (result ≢ DONE) → is_bridgeless.new ≡ is_bridgeless.old }
 {
-    let Some(core) = fleet.take(alloc) else {
+    let Some(held) = fleet.take(alloc) else {
         return NOT_OPEN;
     };
-    *is_bridgeless = core.is_bridgeless();
-    fleet.put(core);
+    *is_bridgeless = held.core.is_bridgeless();
+    fleet.put(held);
     DONE
 }

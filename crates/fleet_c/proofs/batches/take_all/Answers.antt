@@ -1,5 +1,6 @@
 use Rattle.std.proofs.Common.{◌≡◌, length, refl, subst, sym, ◌∙◌, arith, Some, None}
 use Rattle.std.specs.Prelude.{slice_index_or}
+use Rattle.fleet_c.specs.declared.codes.TheConstants.{DONE}
 use Rattle.fleet_c.specs.declared.request.Request.{Request}
 use Rattle.fleet_c.specs.Batches.{TookMany, Requested}
 use Rattle.fleet_c.proofs.InTurn.{took-next, rest-next, none-past}
@@ -10,18 +11,19 @@ none = record { number = 0; kind = 0; client = 0; robot = 0; cell = 0 }
 
 pub loop-at-preserved : goal.loop-at-preserved
 loop-at-preserved c = (
-  took-next c.args.core.now c.args.requests.now c.loop-at.core c.take_one-code.new.core c.loop-at.judgements c.loop-at.at none c.take_one-code.new.judgement
+  took-next c.args.fleet.now.refused.marks.items c.args.fleet.now.core c.args.requests.now c.loop-at.fleet.core c.take_one-code.new.fleet.core c.loop-at.judgements c.loop-at.at none c.take_one-code.new.judgement
       (omega (arith, c.loop-at.auto.judgements, c.requires, c.loop-at-test.true)) c.loop-at-test.true
-      (subst (λ code. Requested c.loop-at.core (slice_index_or c.args.requests.now c.loop-at.at none) code c.take_one-code.new.judgement c.take_one-code.new.core) c.if-code-ne-DONE.false c.take_one-code.ensures.says) c.loop-at.invariant.0,
+      (subst (λ f. Requested f.marks.items c.loop-at.fleet.core (slice_index_or c.args.requests.now c.loop-at.at none) DONE c.take_one-code.new.judgement c.take_one-code.new.fleet.core) c.loop-at.invariant.2 (subst (λ code. Requested c.loop-at.fleet.refused.marks.items c.loop-at.fleet.core (slice_index_or c.args.requests.now c.loop-at.at none) code c.take_one-code.new.judgement c.take_one-code.new.fleet.core) c.if-code-ne-DONE.false c.take_one-code.ensures.says)) c.loop-at.invariant.0,
   rest-next c.loop-at.judgements c.args.judgements.now c.loop-at.at c.take_one-code.new.judgement c.loop-at.invariant.1,
+  c.take_one-code.ensures.stays ∙ c.loop-at.invariant.2,
 )
 
-pub returns : goal.returns
-returns c =
+pub returns-clause-says : goal.returns-clause-says
+returns-clause-says c =
     let all : c.loop-at.at ≡ length c.args.requests.now = omega (arith, c.loop-at.auto.at-end, c.loop-at-test.false) in
     record {
       fit = omega arith;
-      taken = subst (λ k. TookMany c.args.core.now c.args.requests.now c.loop-at.judgements k c.loop-at.core) all c.loop-at.invariant.0;
+      taken = subst (λ k. TookMany c.args.fleet.now.refused.marks.items c.args.fleet.now.core c.args.requests.now c.loop-at.judgements k c.loop-at.fleet.core) all c.loop-at.invariant.0;
       rest = λ k d l. c.loop-at.invariant.1 k d (omega (arith, all));
       all = λ _. refl;
       stopped = λ r e. absurd (some-none (sym e ∙ none-past c.args.requests.now (length c.args.requests.now) (omega arith)));

@@ -13,12 +13,12 @@ use Rattle.std_alloc.proofs.SendSync.{quiet, lies}
 use Rattle.std_heap.specs.contracts.Global as Heap
 use Rattle.std_heap.specs.contracts.GlobalAllocator.TheImpl.{ghosts}
 use Rattle.std_heap.proofs.Global.TheSendSync as handle
-use Rattle.fleet_core.proofs.kernel.Core.TheSendSync as core
+use Rattle.fleet_c.proofs.fleet.Fleet.TheSendSync as fleet
 use Rattle.fleet_c.specs.Owns.{HeldValue, held_row, owns}
 use Rattle.fleet_c.specs.contracts.owned.Owned.{the_row, the_type}
 
 sent : IsSend held_row
-sent = core.the_send Heap.the_row ghosts heap.send heap.frees
+sent = fleet.the_send
 
 keyless : (a : Global) (p : Ptr) (o : Option HeldValue) → Keyless (owns a p o)
 keyless a p None = tt
