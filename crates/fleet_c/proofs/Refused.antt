@@ -66,3 +66,9 @@ not-roomy m w most seen b floor known same says off roomy =
     let at : AreRoomyFor w.floor seen = subst (λ (x : Floor). AreRoomyFor x seen) (sym floor) (subst (AreRoomyFor m) (sym same) known) in
     let on : b ≡ true = (says at).1 (subst (λ (x : Floor). AreOpenRoomy x w.history) (sym floor) roomy) in
     both_ways b off on
+
+-- a world of which it is known that each unfinished errand goes to a roomy cell
+pub is-roomy : {A : Type 0} (m : Floor) (w : World A) (most seen : List ℕ) (b : Bool) → w.floor ≡ m → AreRoomyFor m most → seen ≡ most → (AreRoomyFor w.floor seen → (b ≡ true) ↔ AreOpenRoomy w.floor w.history) → b ≡ true → AreOpenRoomy m w.history
+is-roomy m w most seen b floor known same says on =
+    let at : AreRoomyFor w.floor seen = subst (λ (x : Floor). AreRoomyFor x seen) (sym floor) (subst (AreRoomyFor m) (sym same) known) in
+    subst (λ (x : Floor). AreOpenRoomy x w.history) floor ((says at).0 on)

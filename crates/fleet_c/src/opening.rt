@@ -93,10 +93,17 @@ fn opened(
 }
 
 /// A number of robots: a fleet has at most 512.
-pub(crate) fn counted(robots: &[Robot]) -> u32
+pub(crate) fn clamped(robots: usize) -> u32
+    ensures { result ≡ min robots 4294967295 }
+{
+    u32::try_from(robots).unwrap_or(u32::MAX)
+}
+
+/// How many robots these are.
+fn counted(robots: &[Robot]) -> u32
     ensures { result ≡ min (length robots.now) 4294967295 }
 {
-    u32::try_from(robots.len()).unwrap_or(u32::MAX)
+    clamped(robots.len())
 }
 
 /// The cells that a fleet of this many robots refuses: if `roomy`, the floor cells that are not roomy for them, and else none.

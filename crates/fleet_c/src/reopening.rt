@@ -2,6 +2,7 @@
 
 ghost use Rattle.std.specs.Prelude.{◌≡◌, ◌≢◌, ◌↔◌, IfOk, IfErr, IsSomeAnd, is_some, false, true};
 ghost use Rattle.std.specs.Box.{box_value};
+ghost use Rattle.fleet_history.specs.History.{robots};
 ghost use Rattle.fleet_trace.specs.Trace.{trace_of};
 ghost use Rattle.fleet_bridge.specs.Roominess.{AreRoomyFor};
 ghost use Rattle.fleet_c.specs.Forms.{laws_of_robots};
@@ -12,7 +13,7 @@ use crate::codes::{ALREADY_OPEN, DONE};
 use crate::fault::Fault;
 use crate::fleet::Fleet;
 use crate::handle::Handle;
-use crate::opening::{boxed, counted, grid_of};
+use crate::opening::{boxed, clamped, grid_of};
 use crate::reopen_refusal::ReopenRefusal;
 use crate::robot::Robot;
 use crate::setup::{SETUP_SIZE, Setup};
@@ -105,6 +106,15 @@ fn rooms_of(alloc: Global, grid: &Grid, robots: u32) -> Result<Rooms, AllocError
     Ok(Rooms { most, refused })
 }
 
+/// The number of a fleet's robots.
+fn robots_of(core: &Core) -> u32
+    ensures { result ≡ robots core.now.history }
+{
+    // This states that there are at most 512.
+    let _ = core.chapter();
+    clamped(core.robots())
+}
+
 /// The fleet that goes on from the text of a chapter, in a box.
 fn fleet_from(
     alloc: Global,
@@ -131,11 +141,8 @@ fn roomy_fleet_from(
     ensures ok { IfOk result (λ fleet. GoesOnRoomily grid text.now robots.now setup.now (box_value fleet).core × Refuses true (box_value fleet)) }
     ensures err { IfErr result (λ why. DoesNotGoOnRoomily grid text.now robots.now setup.now why) }
 {
-    let Ok(rooms) = rooms_of(alloc, &grid, counted(robots)) else {
-        mem::drop(grid);
-        return Err(ReopenRefusal::NoMemory);
-    };
     let core = core_from(alloc, grid, text, robots, setup)?;
+    let rooms = rooms_of(alloc, core.grid(), robots_of(&core))?;
     if !core.are_roomy(&rooms.most) {
         return Err(ReopenRefusal::NoRoom);
     }
