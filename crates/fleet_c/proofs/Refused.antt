@@ -6,6 +6,7 @@ use Rattle.std.specs.declared.alloc.Global.{Global}
 use Rattle.fleet_grid.specs.Floor.{Floor}
 use Rattle.fleet_bridge.specs.Roominess.{AreRoomyFor}
 use Rattle.fleet_bound.specs.Roomy.{AreOpenRoomy}
+use Rattle.fleet_history.specs.History.{robots}
 use Rattle.fleet_core.specs.Core.{World}
 use Rattle.fleet_trace.specs.Trace.{Trace}
 use Rattle.fleet_trace.specs.Reads.{Tells}
@@ -16,7 +17,8 @@ use Rattle.fleet_c.specs.declared.reopen_refusal.ReopenRefusal.TheVariants as re
 use Rattle.fleet_c.specs.declared.robot.Robot.{Robot}
 use Rattle.fleet_c.specs.declared.setup.Setup.{Setup}
 use Rattle.fleet_c.specs.Opening.{IsSized, Reads, IsRefusedOn, IsRefusal}
-use Rattle.fleet_c.specs.Reopened.{IsNotGoingOn, DoesNotGoOnFrom, DoesNotGoOnRoomily, IsNotReopened, IsNotReopenedRoomily}
+use Rattle.fleet_c.specs.Roomy.{AreRefused}
+use Rattle.fleet_c.specs.Reopened.{IsNotGoingOn, GoesOnFrom, GoesOnRoomily, DoesNotGoOnFrom, DoesNotGoOnRoomily, IsNotReopened, IsNotReopenedRoomily}
 
 pub on-floor : (bytes : List ℕ) (robots : List Robot) (setup : Setup) (m : Floor) → IsSized setup → Reads bytes m → (why : Refusal) → IsRefusedOn m robots setup why → IsRefusal bytes robots setup why
 on-floor bytes robots setup m sized reads refusal.NoMemory r = tt
@@ -72,3 +74,13 @@ pub is-roomy : {A : Type 0} (m : Floor) (w : World A) (most seen : List ℕ) (b 
 is-roomy m w most seen b floor known same says on =
     let at : AreRoomyFor w.floor seen = subst (λ (x : Floor). AreRoomyFor x seen) (sym floor) (subst (AreRoomyFor m) (sym same) known) in
     subst (λ (x : Floor). AreOpenRoomy x w.history) floor ((says at).0 on)
+
+-- the world is in a box, next to the cells that are refused for its robots
+pub kept-roomily : (m : Floor) (text : List ℕ) (ranked : List Robot) (setup : Setup) (w v : World Global) (n : ℕ) (g : Floor) (cells kept : List Bool) → v ≡ w → kept ≡ cells →
+    GoesOnFrom m text ranked setup w → AreOpenRoomy m w.history → g ≡ w.floor → n ≡ robots w.history → AreRefused true g n cells →
+    GoesOnRoomily m text ranked setup v × AreRefused true v.floor (robots v.history) kept
+kept-roomily m text ranked setup w v n g cells kept same marks goes roomy floor count refused =
+    let here : AreRefused true w.floor (robots w.history) cells = subst (λ (k : ℕ). AreRefused true w.floor k cells) count (subst (λ (f : Floor). AreRefused true f n cells) floor refused) in (
+      subst (λ (x : World Global). GoesOnRoomily m text ranked setup x) (sym same) (record { goes_on = goes; roomy = roomy }),
+      subst (λ (x : World Global). AreRefused true x.floor (robots x.history) kept) (sym same) (subst (λ (ks : List Bool). AreRefused true w.floor (robots w.history) ks) (sym marks) here),
+    )

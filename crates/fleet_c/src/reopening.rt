@@ -142,7 +142,10 @@ fn roomy_fleet_from(
     ensures err { IfErr result (λ why. DoesNotGoOnRoomily grid text.now robots.now setup.now why) }
 {
     let core = core_from(alloc, grid, text, robots, setup)?;
-    let rooms = rooms_of(alloc, core.grid(), robots_of(&core))?;
+    let Ok(rooms) = rooms_of(alloc, core.grid(), robots_of(&core)) else {
+        mem::drop(core);
+        return Err(ReopenRefusal::NoMemory);
+    };
     if !core.are_roomy(&rooms.most) {
         return Err(ReopenRefusal::NoRoom);
     }
