@@ -60,6 +60,25 @@ def exports():
     return found
 
 
+def checked():
+    """The exports that bindings/c/checked.c stands before, without their prefix."""
+    return re.findall(r"^RAW\((\w+)\);$", (BINDINGS / "c" / "checked.c").read_text(), re.M)
+
+
+def lookers():
+    """The exports to which bindings/c/checked.c gives a copy of the handle: so a program gives them a const one."""
+    bodies = re.findall(r"^nashirudder_code (nashirudder_\w+)\((.*?)\) \{\n(.*?)^\}$", (BINDINGS / "c" / "checked.c").read_text(), re.M | re.S)
+    return {name for name, parameters, body in bodies if re.match(r"const nashirudder_(fleet|map|chapter) \*(\w+)", parameters) and "(&seen" in body}
+
+
+def declarations():
+    """The declarations of the header: the exports', but that calls which only look take the handle as const."""
+    found = exports()
+    for name in lookers():
+        found[name] = re.sub(r"\((nashirudder_(?:fleet|map|chapter) \*)", r"(const \1", found[name], count=1)
+    return found
+
+
 def c_field(name, rust):
     array = re.fullmatch(r"\[(\w+); (\d+)\]", rust)
     return f"{c_type(array[1])} {name}[{array[2]}]" if array else f"{c_type(rust)} {name}"
@@ -99,7 +118,9 @@ def compare_header():
     for declaration in re.findall(r"^(?:NASHIRUDDER_MUST_USE nashirudder_code|uint32_t|size_t|bool|void) nashirudder_\w+\([^)]*\);", bare, re.M):
         words = re.sub(r"\s+", " ", declaration).removeprefix("NASHIRUDDER_MUST_USE ")
         declared[re.search(r"nashirudder_\w+(?=\()", words)[0]] = words
-    same("function", exports(), declared)
+    same("function", declarations(), declared)
+    if {f"nashirudder_{name}" for name in checked()} != set(exports()) - {"nashirudder_version", "nashirudder_is_proved"}:
+        fail("bindings/c/checked.c does not stand before each export")
     fields = {name: [re.sub(r"\s+", " ", field).strip() for field in body.split(";") if field.strip()]
               for body, name in re.findall(r"typedef struct \w+ \{(.*?)\} (\w+);", bare, re.S)}
     same("struct", structs(), fields)
@@ -139,6 +160,8 @@ def compare_rust():
     wanted = {name: [parameter for given in parameters for parameter in rust_parameter(*given)] + ([result] if result else [])
               for _, name, parameters, result in c_sources.exports_of(SOURCES)}
     wanted["nashirudder_is_proved"] = ["bool"]
+    for name in lookers():
+        wanted[name][0] = wanted[name][0].replace("*mut", "*const", 1)
     declared = {name: re.findall(r"\w+: [^,]+", " ".join(parameters.split())) + ([result] if result else [])
                 for name, parameters, result in re.findall(r"pub\(crate\) fn (nashirudder_\w+)\((.*?)\)(?: -> (\w+))?;", raw, re.S)}
     for name, words in declared.items():

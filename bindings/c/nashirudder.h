@@ -23,23 +23,15 @@
 **
 ** NULL
 **     A call whose fleet, setup or list is null answers NASHIRUDDER_NULL_POINTER and does nothing. A `judgement`, `report`,
-**     `left` or `fault` that is not wanted may be null. The inline functions at the end of this header see to both, and then
-**     call the library, whose functions are given no null: so a program that calls the library by another way, as by
-**     dlsym, has to give it none. With NASHIRUDDER_UNCHECKED defined the header leaves them out.
-**
-** LOOKING
-**     The calls that only look at a fleet or a map take its handle as const: the inline functions hand the library a copy of
-**     the handle, so that nothing of the caller's is written. Declared here are the library's functions, which take the
-**     handle for themselves and put back what they found, and so ask for one that can be written.
+**     `left` or `fault` that is not wanted may be null.
 **
 ** MEMORY
 **     The library takes memory by malloc and realloc and gives it back by free. All that it took for a fleet is free after
 **     nashirudder_close. Where memory is refused the call answers NASHIRUDDER_NO_MEMORY; no call ends the program.
 **
 ** THREADS
-**     The calls that only look (peek, pending_count, account_of, trace, the views, and the calls on a map or a chapter) may run
-**     at once on one handle, through the inline functions, any number of them. Every other call has to be the only one on its
-**     handle. A handle may move from thread to thread, if a lock or the start or end of a thread orders the calls, and calls on
+**     The calls that only look take their handle as const, and write nothing there: any number of them may run at once on one
+**     handle. Every other call has to be the only one on its handle. A handle may move from thread to thread, if a lock or the start or end of a thread orders the calls, and calls on
 **     different handles may run side by side. No call starts a thread, waits for a lock, or may be made from a signal handler.
 **
 ** REFUSALS
@@ -55,8 +47,9 @@
 #include <stdint.h>
 
 /*
-** The version of this header. nashirudder_version is that of the library: a program should compare them once, since a
-** library of another major version (before 1.0.0: of another minor version) has other structs and numbers.
+** The version of this header. nashirudder_version is that of the library: a program should compare them once. A library fits
+** if it has the same major version (before 1.0.0: the same minor version too), since another one has other structs and
+** numbers; and if it is not older than the header, since an older one may lack calls.
 */
 #define NASHIRUDDER_VERSION_MAJOR 0
 #define NASHIRUDDER_VERSION_MINOR 1
@@ -313,7 +306,8 @@ typedef struct nashirudder_chapter {
 
 /*
 ** The number of clients and the limits of a fleet. nashirudder_setup_default fills it in; it begins with its size, so that a
-** library that reads another form of it refuses it (NASHIRUDDER_WRONG_SIZE).
+** library that reads another form of it refuses it (NASHIRUDDER_WRONG_SIZE). A lane, outlet or mailbox of 0 fits the robots:
+** 2 for each of them and 2 more, and at least 64. So one client can send an errand to each robot, and another one after it.
 */
 typedef struct nashirudder_setup {
     uint32_t size;      /* sizeof(nashirudder_setup) */
@@ -321,10 +315,10 @@ typedef struct nashirudder_setup {
     uint64_t life;      /* errands that a client may have accepted in all, 1 to 2^40 */
     uint64_t orders;    /* orders that a client may send in all, 2 to 2^62; takes effect in an office alone */
     uint64_t clock;     /* ticks in all, 1 to 2^48 */
-    uint32_t lane;      /* orders that a client's lane holds, 1 to 65,536; takes effect in an office alone */
-    uint32_t outlet;    /* notices that a client's outlet holds, 1 to 65,536; takes effect in an office alone */
+    uint32_t lane;      /* orders that a client's lane holds, 1 to 65,536, or 0; takes effect in an office alone */
+    uint32_t outlet;    /* notices that a client's outlet holds, 1 to 65,536, or 0; takes effect in an office alone */
     uint32_t queue;     /* errands that a robot's queue holds, 1 to 65,536 */
-    uint32_t mailbox;   /* notices and unfinished errands of a client together, 2 to 65,536 */
+    uint32_t mailbox;   /* notices and unfinished errands of a client together, 2 to 65,536, or 0 */
     uint32_t chapter;   /* entries of a chapter of the history, 1 to 16,777,216 */
     uint32_t chapters;  /* chapters in all, 1 to 4,294,967,295 */
 } nashirudder_setup;
@@ -476,8 +470,8 @@ size_t nashirudder_message(const nashirudder_fault *fault, char *text, size_t te
 
 /*
 ** Fills in a setup: this many clients, and the limits that the program `errands` takes where a script says nothing (life,
-** orders and clock 1,000,000, lane and outlet 64, queue 16, mailbox 64, chapter 65,536, chapters 1,000). No number is
-** refused here.
+** orders and clock 1,000,000, queue 16, chapter 65,536, chapters 1,000); but lane, outlet and mailbox are 0, which fits the
+** robots. No number is refused here.
 */
 void nashirudder_setup_default(uint32_t clients, nashirudder_setup *setup);
 
@@ -619,14 +613,14 @@ NASHIRUDDER_MUST_USE nashirudder_code nashirudder_give_many(nashirudder_fleet *f
 **
 ** Refused: NASHIRUDDER_NOT_OPEN, NASHIRUDDER_NO_CLIENT, NASHIRUDDER_NO_NOTICE.
 */
-NASHIRUDDER_MUST_USE nashirudder_code nashirudder_peek(nashirudder_fleet *fleet, uint32_t client, nashirudder_note *note);
+NASHIRUDDER_MUST_USE nashirudder_code nashirudder_peek(const nashirudder_fleet *fleet, uint32_t client, nashirudder_note *note);
 
 /*
 ** How many notices a client was not given yet.
 **
 ** Refused: NASHIRUDDER_NOT_OPEN, NASHIRUDDER_NO_CLIENT.
 */
-NASHIRUDDER_MUST_USE nashirudder_code nashirudder_pending_count(nashirudder_fleet *fleet, uint32_t client, uint64_t *count);
+NASHIRUDDER_MUST_USE nashirudder_code nashirudder_pending_count(const nashirudder_fleet *fleet, uint32_t client, uint64_t *count);
 
 /*
 ** How many orders of a client were taken, how many errands it has open, how many notices it was not given yet, and how many
@@ -634,7 +628,7 @@ NASHIRUDDER_MUST_USE nashirudder_code nashirudder_pending_count(nashirudder_flee
 **
 ** Refused: NASHIRUDDER_NOT_OPEN, NASHIRUDDER_NO_CLIENT.
 */
-NASHIRUDDER_MUST_USE nashirudder_code nashirudder_account_of(nashirudder_fleet *fleet, uint32_t client, nashirudder_account *account);
+NASHIRUDDER_MUST_USE nashirudder_code nashirudder_account_of(const nashirudder_fleet *fleet, uint32_t client, nashirudder_account *account);
 
 /*
 ** Lets a client's mailbox hold this many more notices and unfinished errands, and takes the memory for them at once.
@@ -644,25 +638,25 @@ NASHIRUDDER_MUST_USE nashirudder_code nashirudder_account_of(nashirudder_fleet *
 */
 NASHIRUDDER_MUST_USE nashirudder_code nashirudder_widen(nashirudder_fleet *fleet, uint32_t client, uint64_t extra);
 
-/* ---- views: no call here changes the fleet, and with the inline functions its handle may be const ---- */
+/* ---- views: no call here changes the fleet ---- */
 
 /*
 ** How many robots, and how many clients, there are. Refused: NASHIRUDDER_NOT_OPEN.
 */
-NASHIRUDDER_MUST_USE nashirudder_code nashirudder_robots(nashirudder_fleet *fleet, size_t *count);
-NASHIRUDDER_MUST_USE nashirudder_code nashirudder_clients(nashirudder_fleet *fleet, size_t *count);
+NASHIRUDDER_MUST_USE nashirudder_code nashirudder_robots(const nashirudder_fleet *fleet, size_t *count);
+NASHIRUDDER_MUST_USE nashirudder_code nashirudder_clients(const nashirudder_fleet *fleet, size_t *count);
 
 /*
 ** The limits, and the number of clients. Refused: NASHIRUDDER_NOT_OPEN.
 */
-NASHIRUDDER_MUST_USE nashirudder_code nashirudder_limits(nashirudder_fleet *fleet, nashirudder_setup *setup);
+NASHIRUDDER_MUST_USE nashirudder_code nashirudder_limits(const nashirudder_fleet *fleet, nashirudder_setup *setup);
 
 /*
 ** Where the robots stand, by number. The list has one place a robot.
 **
 ** Refused: NASHIRUDDER_NOT_OPEN, NASHIRUDDER_WRONG_LENGTH.
 */
-NASHIRUDDER_MUST_USE nashirudder_code nashirudder_placement(nashirudder_fleet *fleet, uint32_t *cells, size_t cells_length);
+NASHIRUDDER_MUST_USE nashirudder_code nashirudder_placement(const nashirudder_fleet *fleet, uint32_t *cells, size_t cells_length);
 
 /*
 ** How each robot stands, by number. The list has one place a robot. The time that this takes grows with the errands of all
@@ -670,7 +664,7 @@ NASHIRUDDER_MUST_USE nashirudder_code nashirudder_placement(nashirudder_fleet *f
 **
 ** Refused: NASHIRUDDER_NOT_OPEN, NASHIRUDDER_WRONG_LENGTH, NASHIRUDDER_NO_MEMORY.
 */
-NASHIRUDDER_MUST_USE nashirudder_code nashirudder_standings(nashirudder_fleet *fleet, nashirudder_standing *standings, size_t standings_length);
+NASHIRUDDER_MUST_USE nashirudder_code nashirudder_standings(const nashirudder_fleet *fleet, nashirudder_standing *standings, size_t standings_length);
 
 /*
 ** A robot's errands, in the order of its queue, the front first; and a client's errands that are accepted, and neither done
@@ -681,15 +675,15 @@ NASHIRUDDER_MUST_USE nashirudder_code nashirudder_standings(nashirudder_fleet *f
 ** Refused: NASHIRUDDER_NOT_OPEN, NASHIRUDDER_NO_ROBOT or NASHIRUDDER_NO_CLIENT, NASHIRUDDER_NO_MEMORY,
 ** NASHIRUDDER_WRONG_LENGTH; `count` stays as it was unless it is the last of these.
 */
-NASHIRUDDER_MUST_USE nashirudder_code nashirudder_queue(nashirudder_fleet *fleet, uint32_t robot, nashirudder_errand *errands, size_t errands_length,
+NASHIRUDDER_MUST_USE nashirudder_code nashirudder_queue(const nashirudder_fleet *fleet, uint32_t robot, nashirudder_errand *errands, size_t errands_length,
                            size_t *count);
-NASHIRUDDER_MUST_USE nashirudder_code nashirudder_open_errands(nashirudder_fleet *fleet, uint32_t client, nashirudder_errand *errands,
+NASHIRUDDER_MUST_USE nashirudder_code nashirudder_open_errands(const nashirudder_fleet *fleet, uint32_t client, nashirudder_errand *errands,
                            size_t errands_length, size_t *count);
 
 /*
 ** The ticks made so far. Refused: NASHIRUDDER_NOT_OPEN.
 */
-NASHIRUDDER_MUST_USE nashirudder_code nashirudder_clock(nashirudder_fleet *fleet, uint64_t *ticks);
+NASHIRUDDER_MUST_USE nashirudder_code nashirudder_clock(const nashirudder_fleet *fleet, uint64_t *ticks);
 
 /*
 ** How many ticks a robot has waited for the arrival at the cell of its front errand. On a map without bridges there is a
@@ -697,41 +691,41 @@ NASHIRUDDER_MUST_USE nashirudder_code nashirudder_clock(nashirudder_fleet *fleet
 **
 ** Refused: NASHIRUDDER_NOT_OPEN, NASHIRUDDER_NO_ROBOT, NASHIRUDDER_IDLE where it has no errand.
 */
-NASHIRUDDER_MUST_USE nashirudder_code nashirudder_wait_of(nashirudder_fleet *fleet, uint32_t robot, uint64_t *ticks);
+NASHIRUDDER_MUST_USE nashirudder_code nashirudder_wait_of(const nashirudder_fleet *fleet, uint32_t robot, uint64_t *ticks);
 
 /*
 ** The robot that has waited longest, the least number on a tie.
 **
 ** Refused: NASHIRUDDER_NOT_OPEN, NASHIRUDDER_IDLE where nobody has an errand.
 */
-NASHIRUDDER_MUST_USE nashirudder_code nashirudder_eldest(nashirudder_fleet *fleet, uint32_t *robot);
+NASHIRUDDER_MUST_USE nashirudder_code nashirudder_eldest(const nashirudder_fleet *fleet, uint32_t *robot);
 
 /*
 ** How many ticks that robot has waited. Refused: NASHIRUDDER_NOT_OPEN, NASHIRUDDER_IDLE where nobody has an errand.
 */
-NASHIRUDDER_MUST_USE nashirudder_code nashirudder_longest_wait(nashirudder_fleet *fleet, uint64_t *ticks);
+NASHIRUDDER_MUST_USE nashirudder_code nashirudder_longest_wait(const nashirudder_fleet *fleet, uint64_t *ticks);
 
 /*
 ** A number of ticks that no wait reaches, whatever is ordered. Refused: NASHIRUDDER_NOT_OPEN, NASHIRUDDER_HAS_BRIDGE.
 */
-NASHIRUDDER_MUST_USE nashirudder_code nashirudder_wait_limit(nashirudder_fleet *fleet, uint64_t *ticks);
+NASHIRUDDER_MUST_USE nashirudder_code nashirudder_wait_limit(const nashirudder_fleet *fleet, uint64_t *ticks);
 
 /*
 ** Whether nobody has an errand. Refused: NASHIRUDDER_NOT_OPEN.
 */
-NASHIRUDDER_MUST_USE nashirudder_code nashirudder_is_idle(nashirudder_fleet *fleet, bool *is_idle);
+NASHIRUDDER_MUST_USE nashirudder_code nashirudder_is_idle(const nashirudder_fleet *fleet, bool *is_idle);
 
 /*
 ** Within how many ticks nobody has an errand any more, where no order is taken meanwhile.
 **
 ** Refused: NASHIRUDDER_NOT_OPEN, NASHIRUDDER_HAS_BRIDGE.
 */
-NASHIRUDDER_MUST_USE nashirudder_code nashirudder_idle_within(nashirudder_fleet *fleet, uint64_t *ticks);
+NASHIRUDDER_MUST_USE nashirudder_code nashirudder_idle_within(const nashirudder_fleet *fleet, uint64_t *ticks);
 
 /*
 ** Whether the map has no bridge: an edge whose removal separates its two cells. Refused: NASHIRUDDER_NOT_OPEN.
 */
-NASHIRUDDER_MUST_USE nashirudder_code nashirudder_is_bridgeless(nashirudder_fleet *fleet, bool *is_bridgeless);
+NASHIRUDDER_MUST_USE nashirudder_code nashirudder_is_bridgeless(const nashirudder_fleet *fleet, bool *is_bridgeless);
 
 /* ---- chapters ---- */
 
@@ -742,7 +736,7 @@ NASHIRUDDER_MUST_USE nashirudder_code nashirudder_is_bridgeless(nashirudder_flee
 **
 ** Refused: NASHIRUDDER_NOT_OPEN, NASHIRUDDER_NO_MEMORY, NASHIRUDDER_WRONG_LENGTH.
 */
-NASHIRUDDER_MUST_USE nashirudder_code nashirudder_trace(nashirudder_fleet *fleet, uint8_t *text, size_t text_length, size_t *length);
+NASHIRUDDER_MUST_USE nashirudder_code nashirudder_trace(const nashirudder_fleet *fleet, uint8_t *text, size_t text_length, size_t *length);
 
 /*
 ** Begins the next chapter of the history, whose opening is the state now. The entries of the present one are let go: take
@@ -766,7 +760,7 @@ NASHIRUDDER_MUST_USE nashirudder_code nashirudder_next_chapter_into(nashirudder_
 **
 ** Refused: NASHIRUDDER_NOT_OPEN, NASHIRUDDER_NO_MEMORY, NASHIRUDDER_WRONG_LENGTH.
 */
-NASHIRUDDER_MUST_USE nashirudder_code nashirudder_chapter_trace(nashirudder_chapter *chapter, uint8_t *text, size_t text_length, size_t *length);
+NASHIRUDDER_MUST_USE nashirudder_code nashirudder_chapter_trace(const nashirudder_chapter *chapter, uint8_t *text, size_t text_length, size_t *length);
 
 /*
 ** Closes a handle to a chapter: frees what an open one owns. A closed one stays closed.
@@ -838,21 +832,21 @@ void nashirudder_map_close(nashirudder_map *map);
 /*
 ** How large the map is: a list of distances has `cells` places. Refused: NASHIRUDDER_NOT_OPEN.
 */
-NASHIRUDDER_MUST_USE nashirudder_code nashirudder_map_shape(nashirudder_map *map, nashirudder_shape *shape);
+NASHIRUDDER_MUST_USE nashirudder_code nashirudder_map_shape(const nashirudder_map *map, nashirudder_shape *shape);
 
 /*
 ** Whether both cells are floor, and a walk joins them. Refused: NASHIRUDDER_NOT_OPEN.
 */
-NASHIRUDDER_MUST_USE nashirudder_code nashirudder_map_joins(nashirudder_map *map, uint32_t a, uint32_t b, bool *joins);
+NASHIRUDDER_MUST_USE nashirudder_code nashirudder_map_joins(const nashirudder_map *map, uint32_t a, uint32_t b, bool *joins);
 
 /*
 ** As nashirudder_check_step, nashirudder_first_bridge and nashirudder_distances, without reading the map again. Refused as
 ** these, but by NASHIRUDDER_NOT_OPEN in the place of a map's fault.
 */
-NASHIRUDDER_MUST_USE nashirudder_code nashirudder_map_check_step(nashirudder_map *map, const uint32_t *from, size_t from_length,
+NASHIRUDDER_MUST_USE nashirudder_code nashirudder_map_check_step(const nashirudder_map *map, const uint32_t *from, size_t from_length,
                                const uint32_t *to, size_t to_length, nashirudder_fault *fault);
-NASHIRUDDER_MUST_USE nashirudder_code nashirudder_map_first_bridge(nashirudder_map *map, nashirudder_edge *edge);
-NASHIRUDDER_MUST_USE nashirudder_code nashirudder_map_distances(nashirudder_map *map, uint32_t goal, uint32_t *distances,
+NASHIRUDDER_MUST_USE nashirudder_code nashirudder_map_first_bridge(const nashirudder_map *map, nashirudder_edge *edge);
+NASHIRUDDER_MUST_USE nashirudder_code nashirudder_map_distances(const nashirudder_map *map, uint32_t goal, uint32_t *distances,
                                size_t distances_length);
 
 /*
@@ -863,452 +857,8 @@ NASHIRUDDER_MUST_USE nashirudder_code nashirudder_map_distances(nashirudder_map 
 ** Refused: NASHIRUDDER_NOT_OPEN, NASHIRUDDER_NO_MEMORY, NASHIRUDDER_WRONG_LENGTH; `count` stays as it was unless it is the last of
 ** these.
 */
-NASHIRUDDER_MUST_USE nashirudder_code nashirudder_map_unroomy(nashirudder_map *map, uint32_t robots, uint32_t *cells, size_t cells_length,
+NASHIRUDDER_MUST_USE nashirudder_code nashirudder_map_unroomy(const nashirudder_map *map, uint32_t robots, uint32_t *cells, size_t cells_length,
                                  size_t *count);
-
-/* ---- nulls, and const handles: what a program calls by the names above ---- */
-
-#ifndef NASHIRUDDER_UNCHECKED
-
-/* The address of a list, which is null only if the list is empty; then it is another address, which nobody reads. */
-#define NASHIRUDDER_LIST(type, list) ((list) ? (list) : (type *)(void *)nashirudder_nothing)
-
-static uint64_t nashirudder_nothing[1];
-
-static inline size_t nashirudder_checked_message(const nashirudder_fault *fault, char *text, size_t text_length) {
-    if (!fault || (!text && text_length)) return 0;
-    return nashirudder_message(fault, NASHIRUDDER_LIST(char, text), text_length);
-}
-
-static inline void nashirudder_checked_setup_default(uint32_t clients, nashirudder_setup *setup) {
-    if (!setup) return;
-    nashirudder_setup_default(clients, setup);
-}
-
-static inline void nashirudder_checked_setup_endless(uint32_t clients, nashirudder_setup *setup) {
-    if (!setup) return;
-    nashirudder_setup_endless(clients, setup);
-}
-
-NASHIRUDDER_MUST_USE static inline nashirudder_code nashirudder_checked_open(const uint8_t *map, size_t map_length,
-        const nashirudder_robot *robots, size_t robots_length, const nashirudder_setup *setup, nashirudder_fleet *fleet,
-        nashirudder_fault *fault) {
-    nashirudder_fault unread_fault;
-    if ((!map && map_length) || (!robots && robots_length) || !setup || !fleet) return NASHIRUDDER_NULL_POINTER;
-    return nashirudder_open(NASHIRUDDER_LIST(const uint8_t, map), map_length, NASHIRUDDER_LIST(const nashirudder_robot,
-        robots), robots_length, setup, fleet, fault ? fault : &unread_fault);
-}
-
-NASHIRUDDER_MUST_USE static inline nashirudder_code nashirudder_checked_open_roomy(const uint8_t *map, size_t map_length,
-        const nashirudder_robot *robots, size_t robots_length, const nashirudder_setup *setup, nashirudder_fleet *fleet,
-        nashirudder_fault *fault) {
-    nashirudder_fault unread_fault;
-    if ((!map && map_length) || (!robots && robots_length) || !setup || !fleet) return NASHIRUDDER_NULL_POINTER;
-    return nashirudder_open_roomy(NASHIRUDDER_LIST(const uint8_t, map), map_length, NASHIRUDDER_LIST(const nashirudder_robot,
-        robots), robots_length, setup, fleet, fault ? fault : &unread_fault);
-}
-
-NASHIRUDDER_MUST_USE static inline nashirudder_code nashirudder_checked_reopen(const uint8_t *map, size_t map_length,
-        const uint8_t *text, size_t text_length, const nashirudder_robot *robots, size_t robots_length,
-        const nashirudder_setup *setup, nashirudder_fleet *fleet, nashirudder_fault *fault) {
-    nashirudder_fault unread_fault;
-    if ((!map && map_length) || (!text && text_length) || (!robots && robots_length) || !setup
-        || !fleet) return NASHIRUDDER_NULL_POINTER;
-    return nashirudder_reopen(NASHIRUDDER_LIST(const uint8_t, map), map_length, NASHIRUDDER_LIST(const uint8_t, text),
-        text_length, NASHIRUDDER_LIST(const nashirudder_robot, robots), robots_length, setup, fleet,
-        fault ? fault : &unread_fault);
-}
-
-NASHIRUDDER_MUST_USE static inline nashirudder_code nashirudder_checked_reopen_roomy(const uint8_t *map, size_t map_length,
-        const uint8_t *text, size_t text_length, const nashirudder_robot *robots, size_t robots_length,
-        const nashirudder_setup *setup, nashirudder_fleet *fleet, nashirudder_fault *fault) {
-    nashirudder_fault unread_fault;
-    if ((!map && map_length) || (!text && text_length) || (!robots && robots_length) || !setup
-        || !fleet) return NASHIRUDDER_NULL_POINTER;
-    return nashirudder_reopen_roomy(NASHIRUDDER_LIST(const uint8_t, map), map_length, NASHIRUDDER_LIST(const uint8_t, text),
-        text_length, NASHIRUDDER_LIST(const nashirudder_robot, robots), robots_length, setup, fleet,
-        fault ? fault : &unread_fault);
-}
-
-static inline void nashirudder_checked_close(nashirudder_fleet *fleet) {
-    if (!fleet) return;
-    nashirudder_close(fleet);
-}
-
-NASHIRUDDER_MUST_USE static inline nashirudder_code nashirudder_checked_go(nashirudder_fleet *fleet, uint32_t client,
-        uint32_t robot, uint32_t cell, nashirudder_judgement *judgement) {
-    nashirudder_judgement unread_judgement;
-    if (!fleet) return NASHIRUDDER_NULL_POINTER;
-    return nashirudder_go(fleet, client, robot, cell, judgement ? judgement : &unread_judgement);
-}
-
-NASHIRUDDER_MUST_USE static inline nashirudder_code nashirudder_checked_close_client(nashirudder_fleet *fleet,
-        uint32_t client, nashirudder_judgement *judgement) {
-    nashirudder_judgement unread_judgement;
-    if (!fleet) return NASHIRUDDER_NULL_POINTER;
-    return nashirudder_close_client(fleet, client, judgement ? judgement : &unread_judgement);
-}
-
-NASHIRUDDER_MUST_USE static inline nashirudder_code nashirudder_checked_withdraw(nashirudder_fleet *fleet, uint32_t client,
-        uint64_t number, nashirudder_judgement *judgement) {
-    nashirudder_judgement unread_judgement;
-    if (!fleet) return NASHIRUDDER_NULL_POINTER;
-    return nashirudder_withdraw(fleet, client, number, judgement ? judgement : &unread_judgement);
-}
-
-NASHIRUDDER_MUST_USE static inline nashirudder_code nashirudder_checked_take_many(nashirudder_fleet *fleet,
-        const nashirudder_order *orders, size_t orders_length, nashirudder_judgement *judgements, size_t judgements_length,
-        size_t *count) {
-    if (!fleet || (!orders && orders_length) || (!judgements && judgements_length)
-        || !count) return NASHIRUDDER_NULL_POINTER;
-    return nashirudder_take_many(fleet, NASHIRUDDER_LIST(const nashirudder_order, orders), orders_length,
-        NASHIRUDDER_LIST(nashirudder_judgement, judgements), judgements_length, count);
-}
-
-NASHIRUDDER_MUST_USE static inline nashirudder_code nashirudder_checked_tick(nashirudder_fleet *fleet,
-        nashirudder_report *report) {
-    nashirudder_report unread_report;
-    if (!fleet) return NASHIRUDDER_NULL_POINTER;
-    return nashirudder_tick(fleet, report ? report : &unread_report);
-}
-
-NASHIRUDDER_MUST_USE static inline nashirudder_code nashirudder_checked_tick_into(nashirudder_fleet *fleet,
-        nashirudder_report *report, uint32_t *cells, size_t cells_length, nashirudder_arrival *arrivals,
-        size_t arrivals_length, uint32_t *farewells, size_t farewells_length) {
-    nashirudder_report unread_report;
-    if (!fleet || (!cells && cells_length) || (!arrivals && arrivals_length)
-        || (!farewells && farewells_length)) return NASHIRUDDER_NULL_POINTER;
-    return nashirudder_tick_into(fleet, report ? report : &unread_report, NASHIRUDDER_LIST(uint32_t, cells),
-        cells_length, NASHIRUDDER_LIST(nashirudder_arrival, arrivals), arrivals_length,
-        NASHIRUDDER_LIST(uint32_t, farewells), farewells_length);
-}
-
-NASHIRUDDER_MUST_USE static inline nashirudder_code nashirudder_checked_shut(nashirudder_fleet *fleet, uint32_t robot,
-        bool *left) {
-    bool unread_left;
-    if (!fleet) return NASHIRUDDER_NULL_POINTER;
-    return nashirudder_shut(fleet, robot, left ? left : &unread_left);
-}
-
-NASHIRUDDER_MUST_USE static inline nashirudder_code nashirudder_checked_give(nashirudder_fleet *fleet, uint32_t client,
-        nashirudder_note *note) {
-    if (!fleet || !note) return NASHIRUDDER_NULL_POINTER;
-    return nashirudder_give(fleet, client, note);
-}
-
-NASHIRUDDER_MUST_USE static inline nashirudder_code nashirudder_checked_give_many(nashirudder_fleet *fleet,
-        uint32_t client, nashirudder_note *notes, size_t notes_length, size_t *count) {
-    if (!fleet || (!notes && notes_length) || !count) return NASHIRUDDER_NULL_POINTER;
-    return nashirudder_give_many(fleet, client, NASHIRUDDER_LIST(nashirudder_note, notes), notes_length, count);
-}
-
-NASHIRUDDER_MUST_USE static inline nashirudder_code nashirudder_checked_peek(const nashirudder_fleet *fleet,
-        uint32_t client, nashirudder_note *note) {
-    if (!fleet || !note) return NASHIRUDDER_NULL_POINTER;
-    nashirudder_fleet seen = *fleet;
-    return nashirudder_peek(&seen, client, note);
-}
-
-NASHIRUDDER_MUST_USE static inline nashirudder_code nashirudder_checked_pending_count(const nashirudder_fleet *fleet,
-        uint32_t client, uint64_t *count) {
-    if (!fleet || !count) return NASHIRUDDER_NULL_POINTER;
-    nashirudder_fleet seen = *fleet;
-    return nashirudder_pending_count(&seen, client, count);
-}
-
-NASHIRUDDER_MUST_USE static inline nashirudder_code nashirudder_checked_account_of(const nashirudder_fleet *fleet,
-        uint32_t client, nashirudder_account *account) {
-    if (!fleet || !account) return NASHIRUDDER_NULL_POINTER;
-    nashirudder_fleet seen = *fleet;
-    return nashirudder_account_of(&seen, client, account);
-}
-
-NASHIRUDDER_MUST_USE static inline nashirudder_code nashirudder_checked_widen(nashirudder_fleet *fleet, uint32_t client,
-        uint64_t extra) {
-    if (!fleet) return NASHIRUDDER_NULL_POINTER;
-    return nashirudder_widen(fleet, client, extra);
-}
-
-NASHIRUDDER_MUST_USE static inline nashirudder_code nashirudder_checked_robots(const nashirudder_fleet *fleet,
-        size_t *count) {
-    if (!fleet || !count) return NASHIRUDDER_NULL_POINTER;
-    nashirudder_fleet seen = *fleet;
-    return nashirudder_robots(&seen, count);
-}
-
-NASHIRUDDER_MUST_USE static inline nashirudder_code nashirudder_checked_clients(const nashirudder_fleet *fleet,
-        size_t *count) {
-    if (!fleet || !count) return NASHIRUDDER_NULL_POINTER;
-    nashirudder_fleet seen = *fleet;
-    return nashirudder_clients(&seen, count);
-}
-
-NASHIRUDDER_MUST_USE static inline nashirudder_code nashirudder_checked_limits(const nashirudder_fleet *fleet,
-        nashirudder_setup *setup) {
-    if (!fleet || !setup) return NASHIRUDDER_NULL_POINTER;
-    nashirudder_fleet seen = *fleet;
-    return nashirudder_limits(&seen, setup);
-}
-
-NASHIRUDDER_MUST_USE static inline nashirudder_code nashirudder_checked_placement(const nashirudder_fleet *fleet,
-        uint32_t *cells, size_t cells_length) {
-    if (!fleet || (!cells && cells_length)) return NASHIRUDDER_NULL_POINTER;
-    nashirudder_fleet seen = *fleet;
-    return nashirudder_placement(&seen, NASHIRUDDER_LIST(uint32_t, cells), cells_length);
-}
-
-NASHIRUDDER_MUST_USE static inline nashirudder_code nashirudder_checked_standings(const nashirudder_fleet *fleet,
-        nashirudder_standing *standings, size_t standings_length) {
-    if (!fleet || (!standings && standings_length)) return NASHIRUDDER_NULL_POINTER;
-    nashirudder_fleet seen = *fleet;
-    return nashirudder_standings(&seen, NASHIRUDDER_LIST(nashirudder_standing, standings), standings_length);
-}
-
-NASHIRUDDER_MUST_USE static inline nashirudder_code nashirudder_checked_queue(const nashirudder_fleet *fleet,
-        uint32_t robot, nashirudder_errand *errands, size_t errands_length, size_t *count) {
-    if (!fleet || (!errands && errands_length) || !count) return NASHIRUDDER_NULL_POINTER;
-    nashirudder_fleet seen = *fleet;
-    return nashirudder_queue(&seen, robot, NASHIRUDDER_LIST(nashirudder_errand, errands), errands_length, count);
-}
-
-NASHIRUDDER_MUST_USE static inline nashirudder_code nashirudder_checked_open_errands(const nashirudder_fleet *fleet,
-        uint32_t client, nashirudder_errand *errands, size_t errands_length, size_t *count) {
-    if (!fleet || (!errands && errands_length) || !count) return NASHIRUDDER_NULL_POINTER;
-    nashirudder_fleet seen = *fleet;
-    return nashirudder_open_errands(&seen, client, NASHIRUDDER_LIST(nashirudder_errand, errands), errands_length, count);
-}
-
-NASHIRUDDER_MUST_USE static inline nashirudder_code nashirudder_checked_clock(const nashirudder_fleet *fleet,
-        uint64_t *ticks) {
-    if (!fleet || !ticks) return NASHIRUDDER_NULL_POINTER;
-    nashirudder_fleet seen = *fleet;
-    return nashirudder_clock(&seen, ticks);
-}
-
-NASHIRUDDER_MUST_USE static inline nashirudder_code nashirudder_checked_wait_of(const nashirudder_fleet *fleet,
-        uint32_t robot, uint64_t *ticks) {
-    if (!fleet || !ticks) return NASHIRUDDER_NULL_POINTER;
-    nashirudder_fleet seen = *fleet;
-    return nashirudder_wait_of(&seen, robot, ticks);
-}
-
-NASHIRUDDER_MUST_USE static inline nashirudder_code nashirudder_checked_eldest(const nashirudder_fleet *fleet,
-        uint32_t *robot) {
-    if (!fleet || !robot) return NASHIRUDDER_NULL_POINTER;
-    nashirudder_fleet seen = *fleet;
-    return nashirudder_eldest(&seen, robot);
-}
-
-NASHIRUDDER_MUST_USE static inline nashirudder_code nashirudder_checked_longest_wait(const nashirudder_fleet *fleet,
-        uint64_t *ticks) {
-    if (!fleet || !ticks) return NASHIRUDDER_NULL_POINTER;
-    nashirudder_fleet seen = *fleet;
-    return nashirudder_longest_wait(&seen, ticks);
-}
-
-NASHIRUDDER_MUST_USE static inline nashirudder_code nashirudder_checked_wait_limit(const nashirudder_fleet *fleet,
-        uint64_t *ticks) {
-    if (!fleet || !ticks) return NASHIRUDDER_NULL_POINTER;
-    nashirudder_fleet seen = *fleet;
-    return nashirudder_wait_limit(&seen, ticks);
-}
-
-NASHIRUDDER_MUST_USE static inline nashirudder_code nashirudder_checked_is_idle(const nashirudder_fleet *fleet,
-        bool *is_idle) {
-    if (!fleet || !is_idle) return NASHIRUDDER_NULL_POINTER;
-    nashirudder_fleet seen = *fleet;
-    return nashirudder_is_idle(&seen, is_idle);
-}
-
-NASHIRUDDER_MUST_USE static inline nashirudder_code nashirudder_checked_idle_within(const nashirudder_fleet *fleet,
-        uint64_t *ticks) {
-    if (!fleet || !ticks) return NASHIRUDDER_NULL_POINTER;
-    nashirudder_fleet seen = *fleet;
-    return nashirudder_idle_within(&seen, ticks);
-}
-
-NASHIRUDDER_MUST_USE static inline nashirudder_code nashirudder_checked_is_bridgeless(const nashirudder_fleet *fleet,
-        bool *is_bridgeless) {
-    if (!fleet || !is_bridgeless) return NASHIRUDDER_NULL_POINTER;
-    nashirudder_fleet seen = *fleet;
-    return nashirudder_is_bridgeless(&seen, is_bridgeless);
-}
-
-NASHIRUDDER_MUST_USE static inline nashirudder_code nashirudder_checked_trace(const nashirudder_fleet *fleet,
-        uint8_t *text, size_t text_length, size_t *length) {
-    if (!fleet || (!text && text_length) || !length) return NASHIRUDDER_NULL_POINTER;
-    nashirudder_fleet seen = *fleet;
-    return nashirudder_trace(&seen, NASHIRUDDER_LIST(uint8_t, text), text_length, length);
-}
-
-NASHIRUDDER_MUST_USE static inline nashirudder_code nashirudder_checked_next_chapter(nashirudder_fleet *fleet) {
-    if (!fleet) return NASHIRUDDER_NULL_POINTER;
-    return nashirudder_next_chapter(fleet);
-}
-
-NASHIRUDDER_MUST_USE static inline nashirudder_code nashirudder_checked_next_chapter_into(nashirudder_fleet *fleet,
-        nashirudder_chapter *chapter) {
-    if (!fleet || !chapter) return NASHIRUDDER_NULL_POINTER;
-    return nashirudder_next_chapter_into(fleet, chapter);
-}
-
-NASHIRUDDER_MUST_USE static inline nashirudder_code nashirudder_checked_chapter_trace(const nashirudder_chapter *chapter,
-        uint8_t *text, size_t text_length, size_t *length) {
-    if (!chapter || (!text && text_length) || !length) return NASHIRUDDER_NULL_POINTER;
-    nashirudder_chapter seen = *chapter;
-    return nashirudder_chapter_trace(&seen, NASHIRUDDER_LIST(uint8_t, text), text_length, length);
-}
-
-static inline void nashirudder_checked_chapter_close(nashirudder_chapter *chapter) {
-    if (!chapter) return;
-    nashirudder_chapter_close(chapter);
-}
-
-NASHIRUDDER_MUST_USE static inline nashirudder_code nashirudder_checked_keep(nashirudder_fleet *fleet, size_t bytes) {
-    if (!fleet) return NASHIRUDDER_NULL_POINTER;
-    return nashirudder_keep(fleet, bytes);
-}
-
-NASHIRUDDER_MUST_USE static inline nashirudder_code nashirudder_checked_check_step(const uint8_t *map, size_t map_length,
-        const uint32_t *from, size_t from_length, const uint32_t *to, size_t to_length, nashirudder_fault *fault) {
-    nashirudder_fault unread_fault;
-    if ((!map && map_length) || (!from && from_length) || (!to && to_length)) return NASHIRUDDER_NULL_POINTER;
-    return nashirudder_check_step(NASHIRUDDER_LIST(const uint8_t, map), map_length, NASHIRUDDER_LIST(const uint32_t,
-        from), from_length, NASHIRUDDER_LIST(const uint32_t, to), to_length, fault ? fault : &unread_fault);
-}
-
-NASHIRUDDER_MUST_USE static inline nashirudder_code nashirudder_checked_first_bridge(const uint8_t *map, size_t map_length,
-        nashirudder_edge *edge, nashirudder_fault *fault) {
-    nashirudder_fault unread_fault;
-    if ((!map && map_length) || !edge) return NASHIRUDDER_NULL_POINTER;
-    return nashirudder_first_bridge(NASHIRUDDER_LIST(const uint8_t, map), map_length, edge, fault ? fault : &unread_fault);
-}
-
-NASHIRUDDER_MUST_USE static inline nashirudder_code nashirudder_checked_distances(const uint8_t *map, size_t map_length,
-        uint32_t goal, uint32_t *distances, size_t distances_length, nashirudder_fault *fault) {
-    nashirudder_fault unread_fault;
-    if ((!map && map_length) || (!distances && distances_length)) return NASHIRUDDER_NULL_POINTER;
-    return nashirudder_distances(NASHIRUDDER_LIST(const uint8_t, map), map_length, goal, NASHIRUDDER_LIST(uint32_t,
-        distances), distances_length, fault ? fault : &unread_fault);
-}
-
-NASHIRUDDER_MUST_USE static inline nashirudder_code nashirudder_checked_judge(const uint8_t *map, size_t map_length,
-        const uint8_t *text, size_t text_length, nashirudder_fault *fault) {
-    nashirudder_fault unread_fault;
-    if ((!map && map_length) || (!text && text_length)) return NASHIRUDDER_NULL_POINTER;
-    return nashirudder_judge(NASHIRUDDER_LIST(const uint8_t, map), map_length, NASHIRUDDER_LIST(const uint8_t, text), text_length,
-        fault ? fault : &unread_fault);
-}
-
-NASHIRUDDER_MUST_USE static inline nashirudder_code nashirudder_checked_map_open(const uint8_t *text, size_t text_length,
-        nashirudder_map *map, nashirudder_fault *fault) {
-    nashirudder_fault unread_fault;
-    if ((!text && text_length) || !map) return NASHIRUDDER_NULL_POINTER;
-    return nashirudder_map_open(NASHIRUDDER_LIST(const uint8_t, text), text_length, map, fault ? fault : &unread_fault);
-}
-
-static inline void nashirudder_checked_map_close(nashirudder_map *map) {
-    if (!map) return;
-    nashirudder_map_close(map);
-}
-
-NASHIRUDDER_MUST_USE static inline nashirudder_code nashirudder_checked_map_shape(const nashirudder_map *map, nashirudder_shape *shape) {
-    if (!map || !shape) return NASHIRUDDER_NULL_POINTER;
-    nashirudder_map seen = *map;
-    return nashirudder_map_shape(&seen, shape);
-}
-
-NASHIRUDDER_MUST_USE static inline nashirudder_code nashirudder_checked_map_joins(const nashirudder_map *map, uint32_t a, uint32_t b, bool *joins) {
-    if (!map || !joins) return NASHIRUDDER_NULL_POINTER;
-    nashirudder_map seen = *map;
-    return nashirudder_map_joins(&seen, a, b, joins);
-}
-
-NASHIRUDDER_MUST_USE static inline nashirudder_code nashirudder_checked_map_check_step(const nashirudder_map *map, const uint32_t *from, size_t from_length,
-        const uint32_t *to, size_t to_length, nashirudder_fault *fault) {
-    nashirudder_fault unread_fault;
-    if (!map || (!from && from_length) || (!to && to_length)) return NASHIRUDDER_NULL_POINTER;
-    nashirudder_map seen = *map;
-    return nashirudder_map_check_step(&seen, NASHIRUDDER_LIST(const uint32_t, from), from_length, NASHIRUDDER_LIST(const uint32_t, to), to_length,
-        fault ? fault : &unread_fault);
-}
-
-NASHIRUDDER_MUST_USE static inline nashirudder_code nashirudder_checked_map_first_bridge(const nashirudder_map *map, nashirudder_edge *edge) {
-    if (!map || !edge) return NASHIRUDDER_NULL_POINTER;
-    nashirudder_map seen = *map;
-    return nashirudder_map_first_bridge(&seen, edge);
-}
-
-NASHIRUDDER_MUST_USE static inline nashirudder_code nashirudder_checked_map_distances(const nashirudder_map *map, uint32_t goal,
-        uint32_t *distances, size_t distances_length) {
-    if (!map || (!distances && distances_length)) return NASHIRUDDER_NULL_POINTER;
-    nashirudder_map seen = *map;
-    return nashirudder_map_distances(&seen, goal, NASHIRUDDER_LIST(uint32_t, distances), distances_length);
-}
-
-NASHIRUDDER_MUST_USE static inline nashirudder_code nashirudder_checked_map_unroomy(const nashirudder_map *map, uint32_t robots,
-        uint32_t *cells, size_t cells_length, size_t *count) {
-    if (!map || (!cells && cells_length) || !count) return NASHIRUDDER_NULL_POINTER;
-    nashirudder_map seen = *map;
-    return nashirudder_map_unroomy(&seen, robots, NASHIRUDDER_LIST(uint32_t, cells), cells_length, count);
-}
-
-#define nashirudder_message nashirudder_checked_message
-#define nashirudder_setup_default nashirudder_checked_setup_default
-#define nashirudder_setup_endless nashirudder_checked_setup_endless
-#define nashirudder_open nashirudder_checked_open
-#define nashirudder_open_roomy nashirudder_checked_open_roomy
-#define nashirudder_reopen nashirudder_checked_reopen
-#define nashirudder_reopen_roomy nashirudder_checked_reopen_roomy
-#define nashirudder_close nashirudder_checked_close
-#define nashirudder_go nashirudder_checked_go
-#define nashirudder_close_client nashirudder_checked_close_client
-#define nashirudder_withdraw nashirudder_checked_withdraw
-#define nashirudder_take_many nashirudder_checked_take_many
-#define nashirudder_tick nashirudder_checked_tick
-#define nashirudder_tick_into nashirudder_checked_tick_into
-#define nashirudder_shut nashirudder_checked_shut
-#define nashirudder_give nashirudder_checked_give
-#define nashirudder_give_many nashirudder_checked_give_many
-#define nashirudder_peek nashirudder_checked_peek
-#define nashirudder_pending_count nashirudder_checked_pending_count
-#define nashirudder_account_of nashirudder_checked_account_of
-#define nashirudder_widen nashirudder_checked_widen
-#define nashirudder_robots nashirudder_checked_robots
-#define nashirudder_clients nashirudder_checked_clients
-#define nashirudder_limits nashirudder_checked_limits
-#define nashirudder_placement nashirudder_checked_placement
-#define nashirudder_standings nashirudder_checked_standings
-#define nashirudder_queue nashirudder_checked_queue
-#define nashirudder_open_errands nashirudder_checked_open_errands
-#define nashirudder_clock nashirudder_checked_clock
-#define nashirudder_wait_of nashirudder_checked_wait_of
-#define nashirudder_eldest nashirudder_checked_eldest
-#define nashirudder_longest_wait nashirudder_checked_longest_wait
-#define nashirudder_wait_limit nashirudder_checked_wait_limit
-#define nashirudder_is_idle nashirudder_checked_is_idle
-#define nashirudder_idle_within nashirudder_checked_idle_within
-#define nashirudder_is_bridgeless nashirudder_checked_is_bridgeless
-#define nashirudder_trace nashirudder_checked_trace
-#define nashirudder_next_chapter nashirudder_checked_next_chapter
-#define nashirudder_next_chapter_into nashirudder_checked_next_chapter_into
-#define nashirudder_chapter_trace nashirudder_checked_chapter_trace
-#define nashirudder_chapter_close nashirudder_checked_chapter_close
-#define nashirudder_keep nashirudder_checked_keep
-#define nashirudder_check_step nashirudder_checked_check_step
-#define nashirudder_first_bridge nashirudder_checked_first_bridge
-#define nashirudder_distances nashirudder_checked_distances
-#define nashirudder_judge nashirudder_checked_judge
-#define nashirudder_map_open nashirudder_checked_map_open
-#define nashirudder_map_close nashirudder_checked_map_close
-#define nashirudder_map_shape nashirudder_checked_map_shape
-#define nashirudder_map_joins nashirudder_checked_map_joins
-#define nashirudder_map_check_step nashirudder_checked_map_check_step
-#define nashirudder_map_first_bridge nashirudder_checked_map_first_bridge
-#define nashirudder_map_distances nashirudder_checked_map_distances
-#define nashirudder_map_unroomy nashirudder_checked_map_unroomy
-
-#endif
 
 #ifdef __cplusplus
 }

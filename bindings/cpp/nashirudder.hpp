@@ -3,7 +3,7 @@
 ** memory it takes, and what holds of threads; this header needs no library of its own.
 **
 **     nashirudder::Fleet fleet(map, {{0, {}}, {11, {}}});     // the robots' cells and ranks
-**     if (fleet.go(0, 1, 4).verdict != NASHIRUDDER_ACCEPTED) return 1;
+**     if (fleet.go(0, 1, 4).verdict != nashirudder::Verdict::accepted) return 1;
 **     for (auto left = fleet.idle_within().value(); left > 0 && !fleet.is_idle(); left--) fleet.tick();
 **
 ** On a map with a bridge idle_within has no value, and a loop that ticks until the fleet is idle may never end. A fleet that
@@ -13,8 +13,9 @@
 ** Where the library refuses a call, nashirudder::Refused is thrown, and std::bad_alloc where memory was refused. The fleet
 ** is then as it was before the call. What is no refusal but an answer, as that a client has no notice, is an empty optional.
 **
-** Without exceptions (-fno-exceptions) a refusal ends the program: then call the functions of nashirudder.h, or ask first, as by
-** `clock` and `limits`.
+** A call whose name begins with `try_` throws none of these, and returns an Expected: the value, or a Fault with the code. That
+** is std::expected where the standard has it (C++23), and before a class with its most used names. Without exceptions
+** (-fno-exceptions) a refusal of the other calls ends the program.
 **
 ** Any number of threads may call the const methods of one fleet at once; every other call has to be the only one on it.
 */
@@ -24,8 +25,10 @@
 #include "nashirudder.h"
 
 #include <cstdint>
+#include <cstddef>
 #include <functional>
 #include <initializer_list>
+#include <iterator>
 #include <memory>
 #include <new>
 #include <optional>
@@ -39,6 +42,9 @@
 
 #if __cplusplus >= 202002L
 #include <span>
+#endif
+#if __cplusplus > 202002L && __has_include(<expected>)
+#include <expected>
 #endif
 
 #if defined(__cpp_exceptions)
@@ -198,6 +204,54 @@ public:
     Fault fault;
 };
 
+#if defined(__cpp_lib_expected)
+template <typename T> using Expected = std::expected<T, Fault>;
+namespace detail {
+using Unexpected = std::unexpected<Fault>;
+}
+#else
+namespace detail {
+struct Unexpected {
+    explicit Unexpected(const Fault &fault) : fault(fault) {}
+    Fault fault;
+};
+} // namespace detail
+
+/* A value, or why there is none, as std::expected has it from C++23 on. */
+template <typename T> class Expected {
+public:
+    Expected(T value) : held(std::move(value)) {}
+    Expected(const detail::Unexpected &why) : fault(why.fault) {}
+
+    [[nodiscard]] bool has_value() const noexcept { return held.has_value(); }
+    explicit operator bool() const noexcept { return has_value(); }
+    [[nodiscard]] T &operator*() & { return *held; }
+    [[nodiscard]] const T &operator*() const & { return *held; }
+    [[nodiscard]] T &&operator*() && { return std::move(*held); }
+    [[nodiscard]] T *operator->() { return &*held; }
+    [[nodiscard]] const T *operator->() const { return &*held; }
+    [[nodiscard]] const Fault &error() const { return fault; }
+
+private:
+    std::optional<T> held;
+    Fault fault{};
+};
+
+template <> class Expected<void> {
+public:
+    Expected() = default;
+    Expected(const detail::Unexpected &why) : fault(why.fault) {}
+
+    [[nodiscard]] bool has_value() const noexcept { return fault.code == NASHIRUDDER_DONE; }
+    explicit operator bool() const noexcept { return has_value(); }
+    void operator*() const {}
+    [[nodiscard]] const Fault &error() const { return fault; }
+
+private:
+    Fault fault{};
+};
+#endif
+
 /* Orders for a list of them. */
 inline Order order_go(std::uint32_t client, std::uint32_t robot, std::uint32_t cell) { return {0, NASHIRUDDER_ORDER_GO, client, robot, cell}; }
 inline Order order_close(std::uint32_t client) { return {0, NASHIRUDDER_ORDER_CLOSE, client, 0, 0}; }
@@ -222,35 +276,55 @@ inline bool is_proved() noexcept { return nashirudder_is_proved(); }
 
 namespace detail {
 
-/* A copy of a handle, for a call that only looks. */
-template <typename Handle> struct Seen {
-    Handle copy;
-    operator Handle *() { return &copy; }
-};
-template <typename Handle> Seen(const Handle &) -> Seen<Handle>;
-
 /* A list's address. */
 template <typename T> T *address(Span<T> list) { return list.data(); }
 
 inline const std::uint8_t *address(std::string_view text) { return reinterpret_cast<const std::uint8_t *>(text.data()); }
 
-/* Once, and before anything else: the library fits this header. */
+/* Whether the library fits this header: it has the same major and minor version, and is not older. */
+inline bool is_fitting() { return nashirudder_version() / 100 == NASHIRUDDER_VERSION / 100 && nashirudder_version() >= NASHIRUDDER_VERSION; }
+
+/* Once, and before anything else. */
 inline void check_version() {
-    static const bool fits = nashirudder_version() / 100 == NASHIRUDDER_VERSION / 100;
+    static const bool fits = is_fitting();
     if (!fits) {
         NASHIRUDDER_THROW(std::runtime_error("nashirudder: the library's version is " + std::to_string(nashirudder_version()) + ", the header's " +
                                              std::to_string(NASHIRUDDER_VERSION)));
     }
 }
 
-inline void check(nashirudder_code code) {
-    if (code == NASHIRUDDER_NO_MEMORY) NASHIRUDDER_THROW(std::bad_alloc());
-    if (code != NASHIRUDDER_DONE) NASHIRUDDER_THROW(Refused(code));
+/* Throws what a fault says. */
+[[noreturn]] inline void refuse(const Fault &fault) {
+    if (fault.code == NASHIRUDDER_NO_MEMORY) NASHIRUDDER_THROW(std::bad_alloc());
+    NASHIRUDDER_THROW(Refused(fault));
 }
 
+inline void check(nashirudder_code code) {
+    if (code != NASHIRUDDER_DONE) refuse(Fault{0, 0, code});
+}
+
+/* The fault of a call that tells one: its numbers count where it was told. */
+inline Fault fault_of(nashirudder_code code, const Fault &told) { return told.code == code ? told : Fault{0, 0, code}; }
+
 inline void check(nashirudder_code code, const Fault &fault) {
-    if (code != NASHIRUDDER_NO_MEMORY && code != NASHIRUDDER_DONE && fault.code == code) NASHIRUDDER_THROW(Refused(fault));
-    check(code);
+    if (code != NASHIRUDDER_DONE) refuse(fault_of(code, fault));
+}
+
+/* The value, where the call was carried out. */
+template <typename T> Expected<T> expected(nashirudder_code code, T &&value) {
+    if (code != NASHIRUDDER_DONE) return Unexpected(Fault{0, 0, code});
+    return std::forward<T>(value);
+}
+
+inline Expected<void> expected(nashirudder_code code) {
+    if (code != NASHIRUDDER_DONE) return Unexpected(Fault{0, 0, code});
+    return {};
+}
+
+/* The value; throws why there is none. */
+template <typename T> T value_of(Expected<T> told) {
+    if (!told) refuse(told.error());
+    return *std::move(told);
 }
 
 /* Whether the call was carried out; false where it answered that there is nothing. */
@@ -279,7 +353,7 @@ inline Setup endless_setup(std::uint32_t clients = 1) {
 namespace detail {
 
 /* A chapter's text, by a call that says how long it is. */
-template <typename Call> std::string text_by(Call call) {
+template <typename Call> Expected<std::string> text_by(Call call) {
     std::string text(1024, '\0');
     std::size_t length = 0;
     nashirudder_code code = call(reinterpret_cast<std::uint8_t *>(text.data()), text.size(), &length);
@@ -287,9 +361,8 @@ template <typename Call> std::string text_by(Call call) {
         text.resize(length);
         code = call(reinterpret_cast<std::uint8_t *>(text.data()), text.size(), &length);
     }
-    check(code);
-    text.resize(length);
-    return text;
+    if (code == NASHIRUDDER_DONE) text.resize(length);
+    return expected(code, std::move(text));
 }
 
 } // namespace detail
@@ -312,9 +385,10 @@ public:
     ~Chapter() { nashirudder_chapter_close(&handle); }
 
     /* Its trace. */
-    [[nodiscard]] std::string trace() const {
-        if (full) return detail::text_by([&](std::uint8_t *text, std::size_t size, std::size_t *length) { return nashirudder_trace(detail::Seen<nashirudder_fleet>{*full}, text, size, length); });
-        return detail::text_by([&](std::uint8_t *text, std::size_t size, std::size_t *length) { return nashirudder_chapter_trace(detail::Seen{handle}, text, size, length); });
+    [[nodiscard]] std::string trace() const { return detail::value_of(try_trace()); }
+    [[nodiscard]] Expected<std::string> try_trace() const {
+        if (full) return detail::text_by([&](std::uint8_t *text, std::size_t size, std::size_t *length) { return nashirudder_trace(full, text, size, length); });
+        return detail::text_by([&](std::uint8_t *text, std::size_t size, std::size_t *length) { return nashirudder_chapter_trace(&handle, text, size, length); });
     }
 
 private:
@@ -326,7 +400,9 @@ private:
     const nashirudder_fleet *full = nullptr; // the fleet whose present chapter this is
 };
 
-/* A fleet. Of one that was moved from, every call but the destructor is refused. */
+class Notices;
+
+/* A fleet. One that was moved from has no robots, and every call on it that is not refused changes nothing. */
 class Fleet {
 public:
     Fleet(std::string_view map, Span<const Robot> robots, const Setup &setup = default_setup()) {
@@ -351,6 +427,19 @@ public:
     [[nodiscard]] static Fleet reopen_roomy(std::string_view map, std::string_view text, Span<const Robot> robots, const Setup &setup = default_setup()) {
         return Fleet(nashirudder_reopen_roomy, map, text, robots, setup);
     }
+    /* The same four, without exceptions. A library that does not fit the header is NASHIRUDDER_WRONG_SIZE. */
+    [[nodiscard]] static Expected<Fleet> try_open(std::string_view map, Span<const Robot> robots, const Setup &setup = default_setup()) {
+        return tried(nashirudder_open, map, robots, setup);
+    }
+    [[nodiscard]] static Expected<Fleet> try_reopen(std::string_view map, std::string_view text, Span<const Robot> robots, const Setup &setup = default_setup()) {
+        return tried_again(nashirudder_reopen, map, text, robots, setup);
+    }
+    [[nodiscard]] static Expected<Fleet> try_open_roomy(std::string_view map, Span<const Robot> robots, const Setup &setup = default_setup()) {
+        return tried(nashirudder_open_roomy, map, robots, setup);
+    }
+    [[nodiscard]] static Expected<Fleet> try_reopen_roomy(std::string_view map, std::string_view text, Span<const Robot> robots, const Setup &setup = default_setup()) {
+        return tried_again(nashirudder_reopen_roomy, map, text, robots, setup);
+    }
     Fleet(const Fleet &) = delete;
     Fleet &operator=(const Fleet &) = delete;
     Fleet(Fleet &&other) noexcept
@@ -369,46 +458,44 @@ public:
     }
     ~Fleet() { nashirudder_close(&handle); }
 
-    [[nodiscard]] Judgement go(std::uint32_t client, std::uint32_t robot, std::uint32_t cell) {
-        Judgement judgement{};
-        detail::check(in_chapter([&] { return nashirudder_go(&handle, client, robot, cell, &judgement); }));
-        return judgement;
+    [[nodiscard]] Judgement go(std::uint32_t client, std::uint32_t robot, std::uint32_t cell) { return detail::value_of(try_go(client, robot, cell)); }
+    [[nodiscard]] Expected<Judgement> try_go(std::uint32_t client, std::uint32_t robot, std::uint32_t cell) {
+        return judged([&](Judgement *told) { return nashirudder_go(&handle, client, robot, cell, told); });
     }
-    [[nodiscard]] Judgement close_client(std::uint32_t client) {
-        Judgement judgement{};
-        detail::check(in_chapter([&] { return nashirudder_close_client(&handle, client, &judgement); }));
-        return judgement;
+    [[nodiscard]] Judgement close_client(std::uint32_t client) { return detail::value_of(try_close_client(client)); }
+    [[nodiscard]] Expected<Judgement> try_close_client(std::uint32_t client) {
+        return judged([&](Judgement *told) { return nashirudder_close_client(&handle, client, told); });
     }
-    [[nodiscard]] Judgement withdraw(std::uint32_t client, std::uint64_t number) {
-        Judgement judgement{};
-        detail::check(in_chapter([&] { return nashirudder_withdraw(&handle, client, number, &judgement); }));
-        return judgement;
+    [[nodiscard]] Judgement withdraw(std::uint32_t client, std::uint64_t number) { return detail::value_of(try_withdraw(client, number)); }
+    [[nodiscard]] Expected<Judgement> try_withdraw(std::uint32_t client, std::uint64_t number) {
+        return judged([&](Judgement *told) { return nashirudder_withdraw(&handle, client, number, told); });
     }
-    Report tick() {
+    Report tick() { return detail::value_of(try_tick()); }
+    [[nodiscard]] Expected<Report> try_tick() {
         Report report{};
-        detail::check(in_chapter([&] { return nashirudder_tick(&handle, &report); }));
-        return report;
+        return detail::expected(in_chapter([&] { return nashirudder_tick(&handle, &report); }), std::move(report));
     }
     /* The same, with what the tick shows. */
-    Report tick_into(Shown &shown) {
+    Report tick_into(Shown &shown) { return detail::value_of(try_tick_into(shown)); }
+    [[nodiscard]] Expected<Report> try_tick_into(Shown &shown) {
         shown.cells.resize(count);
         shown.arrivals.resize(count);
         shown.farewells.resize(count);
-        Report report{};
-        detail::check(in_chapter([&] {
-            return nashirudder_tick_into(&handle, &report, shown.cells.data(), count, shown.arrivals.data(), count, shown.farewells.data(), count);
-        }));
-        shown.arrivals.resize(report.arrived);
-        shown.farewells.resize(report.farewells);
-        return report;
+        auto told = try_tick_into(Span<std::uint32_t>(shown.cells), Span<Arrival>(shown.arrivals), Span<std::uint32_t>(shown.farewells));
+        shown.arrivals.resize(told ? told->arrived : 0);
+        shown.farewells.resize(told ? told->farewells : 0);
+        return told;
     }
     /* The same, into lists that have one place a robot each; the report says how many of the last two are written. */
     Report tick_into(Span<std::uint32_t> cells, Span<Arrival> arrivals, Span<std::uint32_t> farewells) {
+        return detail::value_of(try_tick_into(cells, arrivals, farewells));
+    }
+    [[nodiscard]] Expected<Report> try_tick_into(Span<std::uint32_t> cells, Span<Arrival> arrivals, Span<std::uint32_t> farewells) {
         Report report{};
-        detail::check(in_chapter([&] {
+        nashirudder_code code = in_chapter([&] {
             return nashirudder_tick_into(&handle, &report, cells.data(), cells.size(), arrivals.data(), arrivals.size(), farewells.data(), farewells.size());
-        }));
-        return report;
+        });
+        return detail::expected(code, std::move(report));
     }
     /* Takes orders one after the other until one is refused, with a place for each judgement. */
     [[nodiscard]] Taken take_many(Span<const Order> orders, Span<Judgement> judgements) {
@@ -428,17 +515,21 @@ public:
         return {taken, static_cast<Code>(code)};
     }
     /* Whether the robot had no errand, and so took its leave at once. */
-    bool shut(std::uint32_t robot) {
+    bool shut(std::uint32_t robot) { return detail::value_of(try_shut(robot)); }
+    [[nodiscard]] Expected<bool> try_shut(std::uint32_t robot) {
         bool left = false;
-        detail::check(in_chapter([&] { return nashirudder_shut(&handle, robot, &left); }));
-        return left;
+        return detail::expected(in_chapter([&] { return nashirudder_shut(&handle, robot, &left); }), std::move(left));
     }
     /* The client's next notice, or nothing. */
-    [[nodiscard]] std::optional<Note> give(std::uint32_t client) {
+    [[nodiscard]] std::optional<Note> give(std::uint32_t client) { return detail::value_of(try_give(client)); }
+    [[nodiscard]] Expected<std::optional<Note>> try_give(std::uint32_t client) {
         Note note{};
-        if (!detail::is_there(nashirudder_give(&handle, client, &note), NASHIRUDDER_NO_NOTICE)) return std::nullopt;
-        return note;
+        nashirudder_code code = nashirudder_give(&handle, client, &note);
+        if (code == NASHIRUDDER_NO_NOTICE) return std::optional<Note>();
+        return detail::expected(code, std::optional<Note>(note));
     }
+    /* The client's notices, each of which leaves the mailbox when a loop comes to it: for (const Note &note : fleet.notices(0)) */
+    [[nodiscard]] Notices notices(std::uint32_t client);
     /* As many of the client's next notices as the list has places for; how many these are. */
     [[nodiscard]] std::size_t give_many(std::uint32_t client, Span<Note> notes) {
         std::size_t given = 0;
@@ -454,30 +545,30 @@ public:
     /* The notice that `give` would give, which stays, or nothing. */
     [[nodiscard]] std::optional<Note> peek(std::uint32_t client) const {
         Note note{};
-        if (!detail::is_there(nashirudder_peek(detail::Seen{handle}, client, &note), NASHIRUDDER_NO_NOTICE)) return std::nullopt;
+        if (!detail::is_there(nashirudder_peek(&handle, client, &note), NASHIRUDDER_NO_NOTICE)) return std::nullopt;
         return note;
     }
     [[nodiscard]] std::uint64_t pending_count(std::uint32_t client) const {
         std::uint64_t pending = 0;
-        detail::check(nashirudder_pending_count(detail::Seen{handle}, client, &pending));
+        detail::check(nashirudder_pending_count(&handle, client, &pending));
         return pending;
     }
     /* How many orders of the client were taken, how many errands it has open, how many notices, and the room for both. */
     [[nodiscard]] Account account_of(std::uint32_t client) const {
         Account account{};
-        detail::check(nashirudder_account_of(detail::Seen{handle}, client, &account));
+        detail::check(nashirudder_account_of(&handle, client, &account));
         return account;
     }
     void widen(std::uint32_t client, std::uint64_t extra) { detail::check(nashirudder_widen(&handle, client, extra)); }
     /* Where the robots stand, by number, into a list that has one place for each. */
-    void placement(Span<std::uint32_t> cells) const { detail::check(nashirudder_placement(detail::Seen{handle}, detail::address(cells), cells.size())); }
+    void placement(Span<std::uint32_t> cells) const { detail::check(nashirudder_placement(&handle, detail::address(cells), cells.size())); }
     [[nodiscard]] std::vector<std::uint32_t> placement() const {
         std::vector<std::uint32_t> cells(count);
         placement(Span<std::uint32_t>(cells));
         return cells;
     }
     /* How each robot stands, by number, into a list that has one place for each. */
-    void standings(Span<Standing> told) const { detail::check(nashirudder_standings(detail::Seen{handle}, told.data(), told.size())); }
+    void standings(Span<Standing> told) const { detail::check(nashirudder_standings(&handle, told.data(), told.size())); }
     [[nodiscard]] std::vector<Standing> standings() const {
         std::vector<Standing> told(count);
         standings(Span<Standing>(told));
@@ -485,73 +576,77 @@ public:
     }
     /* The robot's errands, in the order of its queue. */
     [[nodiscard]] std::vector<Errand> queue(std::uint32_t robot) const {
-        return listed([&](Errand *list, std::size_t length, std::size_t *told) { return nashirudder_queue(detail::Seen{handle}, robot, list, length, told); });
+        return listed([&](Errand *list, std::size_t length, std::size_t *told) { return nashirudder_queue(&handle, robot, list, length, told); });
     }
     /* The client's errands that are accepted, and neither done nor withdrawn: by robot, and then by place in its queue. */
     [[nodiscard]] std::vector<Errand> open_errands(std::uint32_t client) const {
-        return listed([&](Errand *list, std::size_t length, std::size_t *told) { return nashirudder_open_errands(detail::Seen{handle}, client, list, length, told); });
+        return listed([&](Errand *list, std::size_t length, std::size_t *told) { return nashirudder_open_errands(&handle, client, list, length, told); });
     }
     [[nodiscard]] std::uint64_t clock() const {
         std::uint64_t ticks = 0;
-        detail::check(nashirudder_clock(detail::Seen{handle}, &ticks));
+        detail::check(nashirudder_clock(&handle, &ticks));
         return ticks;
     }
     /* How long the robot has waited, or nothing where it has no errand. */
     [[nodiscard]] std::optional<std::uint64_t> wait_of(std::uint32_t robot) const {
         std::uint64_t ticks = 0;
-        if (!detail::is_there(nashirudder_wait_of(detail::Seen{handle}, robot, &ticks), NASHIRUDDER_IDLE)) return std::nullopt;
+        if (!detail::is_there(nashirudder_wait_of(&handle, robot, &ticks), NASHIRUDDER_IDLE)) return std::nullopt;
         return ticks;
     }
     /* The robot that has waited longest, or nothing where nobody has an errand. */
     [[nodiscard]] std::optional<std::uint32_t> eldest() const {
         std::uint32_t robot = 0;
-        if (!detail::is_there(nashirudder_eldest(detail::Seen{handle}, &robot), NASHIRUDDER_IDLE)) return std::nullopt;
+        if (!detail::is_there(nashirudder_eldest(&handle, &robot), NASHIRUDDER_IDLE)) return std::nullopt;
         return robot;
     }
     /* How long that robot has waited, or nothing. */
     [[nodiscard]] std::optional<std::uint64_t> longest_wait() const {
         std::uint64_t ticks = 0;
-        if (!detail::is_there(nashirudder_longest_wait(detail::Seen{handle}, &ticks), NASHIRUDDER_IDLE)) return std::nullopt;
+        if (!detail::is_there(nashirudder_longest_wait(&handle, &ticks), NASHIRUDDER_IDLE)) return std::nullopt;
         return ticks;
     }
     /* A number of ticks that no wait reaches, or nothing on a map with a bridge. */
     [[nodiscard]] std::optional<std::uint64_t> wait_limit() const {
         std::uint64_t ticks = 0;
-        if (!detail::is_there(nashirudder_wait_limit(detail::Seen{handle}, &ticks), NASHIRUDDER_HAS_BRIDGE)) return std::nullopt;
+        if (!detail::is_there(nashirudder_wait_limit(&handle, &ticks), NASHIRUDDER_HAS_BRIDGE)) return std::nullopt;
         return ticks;
     }
     [[nodiscard]] bool is_idle() const {
         bool idle = false;
-        detail::check(nashirudder_is_idle(detail::Seen{handle}, &idle));
+        detail::check(nashirudder_is_idle(&handle, &idle));
         return idle;
     }
     /* Within how many ticks nobody has an errand any more, or nothing on a map with a bridge. */
     [[nodiscard]] std::optional<std::uint64_t> idle_within() const {
         std::uint64_t ticks = 0;
-        if (!detail::is_there(nashirudder_idle_within(detail::Seen{handle}, &ticks), NASHIRUDDER_HAS_BRIDGE)) return std::nullopt;
+        if (!detail::is_there(nashirudder_idle_within(&handle, &ticks), NASHIRUDDER_HAS_BRIDGE)) return std::nullopt;
         return ticks;
     }
     [[nodiscard]] bool is_bridgeless() const {
         bool bridgeless = false;
-        detail::check(nashirudder_is_bridgeless(detail::Seen{handle}, &bridgeless));
+        detail::check(nashirudder_is_bridgeless(&handle, &bridgeless));
         return bridgeless;
     }
     /* The trace of the present chapter. */
-    [[nodiscard]] std::string trace() const {
-        return detail::text_by([&](std::uint8_t *text, std::size_t size, std::size_t *length) { return nashirudder_trace(detail::Seen{handle}, text, size, length); });
+    [[nodiscard]] std::string trace() const { return detail::value_of(try_trace()); }
+    [[nodiscard]] Expected<std::string> try_trace() const {
+        return detail::text_by([&](std::uint8_t *text, std::size_t size, std::size_t *length) { return nashirudder_trace(&handle, text, size, length); });
     }
-    void next_chapter() {
+    void next_chapter() { detail::value_of(try_next_chapter()); }
+    [[nodiscard]] Expected<void> try_next_chapter() {
         forbid_keeper();
-        detail::check(nashirudder_next_chapter(&handle));
-        number++;
+        nashirudder_code code = nashirudder_next_chapter(&handle);
+        if (code == NASHIRUDDER_DONE) number++;
+        return detail::expected(code);
     }
     /* The same, and hands out the chapter that ended. */
-    [[nodiscard]] Chapter hand_out() {
+    [[nodiscard]] Chapter hand_out() { return detail::value_of(try_hand_out()); }
+    [[nodiscard]] Expected<Chapter> try_hand_out() {
         forbid_keeper();
         Chapter ended;
-        detail::check(nashirudder_next_chapter_into(&handle, &ended.handle));
-        number++;
-        return ended;
+        nashirudder_code code = nashirudder_next_chapter_into(&handle, &ended.handle);
+        if (code == NASHIRUDDER_DONE) number++;
+        return detail::expected(code, std::move(ended));
     }
     /* From now on an order, a tick or a shut that finds the chapter full is made in the next one. The full one is dropped. Only in
        the last of all chapters Code::chapter_full is thrown. */
@@ -582,13 +677,13 @@ public:
     [[nodiscard]] std::size_t robots() const { return count; }
     [[nodiscard]] std::size_t clients() const {
         std::size_t clients = 0;
-        detail::check(nashirudder_clients(detail::Seen{handle}, &clients));
+        detail::check(nashirudder_clients(&handle, &clients));
         return clients;
     }
     /* The limits, and the number of clients. */
     [[nodiscard]] Setup limits() const {
         Setup setup{};
-        detail::check(nashirudder_limits(detail::Seen{handle}, &setup));
+        detail::check(nashirudder_limits(&handle, &setup));
         return setup;
     }
 
@@ -597,24 +692,56 @@ private:
     Fleet(decltype(&nashirudder_reopen) call, std::string_view map, std::string_view text, Span<const Robot> robots, const Setup &setup)
         : Fleet() {
         detail::check_version();
-        Fault fault{};
-        detail::check(call(detail::address(map), map.size(), detail::address(text), text.size(), detail::address(robots), robots.size(), &setup,
-                           &handle, &fault), fault);
-        count = robots.size();
-        number = present_number();
+        refuse_if(reopen_by(call, map, text, robots, setup));
     }
     void open(decltype(&nashirudder_open) call, std::string_view map, Span<const Robot> robots, const Setup &setup) {
         detail::check_version();
+        refuse_if(open_by(call, map, robots, setup));
+    }
+    static void refuse_if(const Fault &fault) {
+        if (fault.code != NASHIRUDDER_DONE) detail::refuse(fault);
+    }
+    Fault open_by(decltype(&nashirudder_open) call, std::string_view map, Span<const Robot> robots, const Setup &setup) {
         Fault fault{};
-        detail::check(call(detail::address(map), map.size(), detail::address(robots), robots.size(), &setup, &handle, &fault), fault);
+        nashirudder_code code = call(detail::address(map), map.size(), robots.data(), robots.size(), &setup, &handle, &fault);
+        if (code == NASHIRUDDER_DONE) count = robots.size();
+        return detail::fault_of(code, fault);
+    }
+    Fault reopen_by(decltype(&nashirudder_reopen) call, std::string_view map, std::string_view text, Span<const Robot> robots, const Setup &setup) {
+        Fault fault{};
+        nashirudder_code code = call(detail::address(map), map.size(), detail::address(text), text.size(), robots.data(), robots.size(), &setup, &handle, &fault);
+        if (code != NASHIRUDDER_DONE) return detail::fault_of(code, fault);
         count = robots.size();
+        auto told = try_trace();
+        if (!told) return told.error();
+        number = number_in(*told);
+        return {};
+    }
+    static Expected<Fleet> tried(decltype(&nashirudder_open) call, std::string_view map, Span<const Robot> robots, const Setup &setup) {
+        Fleet fleet;
+        const Fault fault = detail::is_fitting() ? fleet.open_by(call, map, robots, setup) : Fault{0, 0, NASHIRUDDER_WRONG_SIZE};
+        if (fault.code != NASHIRUDDER_DONE) return detail::Unexpected(fault);
+        return fleet;
+    }
+    static Expected<Fleet> tried_again(decltype(&nashirudder_reopen) call, std::string_view map, std::string_view text, Span<const Robot> robots,
+                                       const Setup &setup) {
+        Fleet fleet;
+        const Fault fault = detail::is_fitting() ? fleet.reopen_by(call, map, text, robots, setup) : Fault{0, 0, NASHIRUDDER_WRONG_SIZE};
+        if (fault.code != NASHIRUDDER_DONE) return detail::Unexpected(fault);
+        return fleet;
+    }
+    /* An order. */
+    template <typename Call> Expected<Judgement> judged(Call call) {
+        Judgement judgement{};
+        return detail::expected(in_chapter([&] { return call(&judgement); }), std::move(judgement));
     }
     /* A call that may find the chapter full. */
     template <typename Call> nashirudder_code in_chapter(Call call) {
         forbid_keeper();
         nashirudder_code code = call();
         if (code != NASHIRUDDER_CHAPTER_FULL || !rolls || number + 1 >= limits().chapters || !is_kept()) return code;
-        detail::check(nashirudder_next_chapter(&handle));
+        code = nashirudder_next_chapter(&handle);
+        if (code != NASHIRUDDER_DONE) return code;
         number++;
         return call();
     }
@@ -632,10 +759,9 @@ private:
     void forbid_keeper() const {
         if (is_keeping) NASHIRUDDER_THROW(std::logic_error("nashirudder: a keeper of chapters called its own fleet"));
     }
-    /* The number of the present chapter, as its trace begins: {"chapter":N, */
-    std::uint64_t present_number() const {
+    /* The number of a chapter, as its trace begins: {"chapter":N, */
+    static std::uint64_t number_in(const std::string &text) {
         static constexpr std::string_view before = "{\"chapter\":";
-        const std::string text = trace();
         std::uint64_t found = 0;
         for (char digit : std::string_view(text).substr(before.size())) {
             if (digit < '0' || digit > '9') break;
@@ -664,6 +790,48 @@ private:
     std::shared_ptr<std::function<bool(const Chapter &)>> keeper;
 };
 
+/* What Fleet::notices returns: a range of the client's notices, which is read once. */
+class Notices {
+public:
+    class Iterator {
+    public:
+        using iterator_category = std::input_iterator_tag;
+        using value_type = Note;
+        using difference_type = std::ptrdiff_t;
+        using pointer = const Note *;
+        using reference = const Note &;
+
+        Iterator() = default;
+        explicit Iterator(Notices *of) : of(of) { ++*this; }
+        reference operator*() const { return *note; }
+        pointer operator->() const { return &*note; }
+        Iterator &operator++() {
+            note = of->fleet->give(of->client);
+            return *this;
+        }
+        void operator++(int) { ++*this; }
+        /* Two are equal at the end alone. */
+        friend bool operator==(const Iterator &one, const Iterator &other) { return !one.note && !other.note; }
+        friend bool operator!=(const Iterator &one, const Iterator &other) { return !(one == other); }
+
+    private:
+        Notices *of = nullptr;
+        std::optional<Note> note;
+    };
+
+    Iterator begin() { return Iterator(this); }
+    Iterator end() { return {}; }
+
+private:
+    friend class Fleet;
+    Notices(Fleet &fleet, std::uint32_t client) : fleet(&fleet), client(client) {}
+
+    Fleet *fleet;
+    std::uint32_t client;
+};
+
+inline Notices Fleet::notices(std::uint32_t client) { return Notices(*this, client); }
+
 /* A map that is read once, for any number of questions. Any number of threads may ask at once. */
 class Map {
 public:
@@ -671,6 +839,13 @@ public:
         detail::check_version();
         Fault fault{};
         detail::check(nashirudder_map_open(detail::address(text), text.size(), &handle, &fault), fault);
+    }
+    [[nodiscard]] static Expected<Map> try_open(std::string_view text) {
+        Map map;
+        Fault fault{};
+        const nashirudder_code code = detail::is_fitting() ? nashirudder_map_open(detail::address(text), text.size(), &map.handle, &fault) : NASHIRUDDER_WRONG_SIZE;
+        if (code != NASHIRUDDER_DONE) return detail::Unexpected(detail::fault_of(code, fault));
+        return map;
     }
     Map(const Map &) = delete;
     Map &operator=(const Map &) = delete;
@@ -686,19 +861,29 @@ public:
 
     [[nodiscard]] Shape shape() const {
         Shape shape{};
-        detail::check(nashirudder_map_shape(detail::Seen{handle}, &shape));
+        detail::check(nashirudder_map_shape(&handle, &shape));
         return shape;
+    }
+    /* The cells that are floor, in their order. */
+    [[nodiscard]] std::vector<std::uint32_t> floor() const {
+        const Shape whole = shape();
+        std::vector<std::uint32_t> cells;
+        cells.reserve(whole.floor);
+        for (std::uint32_t cell = 0; cell < whole.cells; cell++) {
+            if (joins(cell, cell)) cells.push_back(cell);
+        }
+        return cells;
     }
     /* Whether both cells are floor, and a walk joins them. */
     [[nodiscard]] bool joins(std::uint32_t a, std::uint32_t b) const {
         bool joins = false;
-        detail::check(nashirudder_map_joins(detail::Seen{handle}, a, b, &joins));
+        detail::check(nashirudder_map_joins(&handle, a, b, &joins));
         return joins;
     }
     /* Nothing where the step is free of conflicts, else its first fault. */
     [[nodiscard]] std::optional<Fault> check_step(Span<const std::uint32_t> from, Span<const std::uint32_t> to) const {
         Fault fault{};
-        nashirudder_code code = nashirudder_map_check_step(detail::Seen{handle}, from.data(), from.size(), to.data(), to.size(), &fault);
+        nashirudder_code code = nashirudder_map_check_step(&handle, from.data(), from.size(), to.data(), to.size(), &fault);
         if (code == NASHIRUDDER_NO_MEMORY) NASHIRUDDER_THROW(std::bad_alloc());
         if (code == NASHIRUDDER_NOT_OPEN) NASHIRUDDER_THROW(Refused(code));
         if (code == NASHIRUDDER_DONE) return std::nullopt;
@@ -707,13 +892,13 @@ public:
     /* The first bridge, or nothing where there is none. */
     [[nodiscard]] std::optional<Edge> first_bridge() const {
         Edge edge{};
-        if (!detail::is_there(nashirudder_map_first_bridge(detail::Seen{handle}, &edge), NASHIRUDDER_NO_BRIDGE)) return std::nullopt;
+        if (!detail::is_there(nashirudder_map_first_bridge(&handle, &edge), NASHIRUDDER_NO_BRIDGE)) return std::nullopt;
         return edge;
     }
     /* The length of a shortest walk from each cell to the goal, NASHIRUDDER_FAR where there is none; into a list that has one
        place a cell. */
     void distances(std::uint32_t goal, Span<std::uint32_t> told) const {
-        detail::check(nashirudder_map_distances(detail::Seen{handle}, goal, told.data(), told.size()));
+        detail::check(nashirudder_map_distances(&handle, goal, told.data(), told.size()));
     }
     [[nodiscard]] std::vector<std::uint32_t> distances(std::uint32_t goal) const {
         std::vector<std::uint32_t> told(shape().cells);
@@ -724,7 +909,7 @@ public:
     [[nodiscard]] std::vector<std::uint32_t> unroomy(std::uint32_t robots) const {
         std::vector<std::uint32_t> cells(64);
         std::size_t told = 0;
-        auto call = [&] { return nashirudder_map_unroomy(detail::Seen{handle}, robots, cells.data(), cells.size(), &told); };
+        auto call = [&] { return nashirudder_map_unroomy(&handle, robots, cells.data(), cells.size(), &told); };
         nashirudder_code code = call();
         if (code == NASHIRUDDER_WRONG_LENGTH) {
             cells.resize(told);
@@ -736,6 +921,8 @@ public:
     }
 
 private:
+    Map() = default;
+
     nashirudder_map handle = NASHIRUDDER_CLOSED;
 };
 

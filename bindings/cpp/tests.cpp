@@ -103,7 +103,7 @@ static void openings() {
         return refusal_of([&] { Fleet(map, std::span<const Robot>(robots), setup); });
     };
     Setup one = default_setup();
-    CHECK(one.clients == 1 && one.queue == 16 && one.mailbox == 64 && one.lane == 64 && one.outlet == 64 && one.life == 1000000);
+    CHECK(one.clients == 1 && one.queue == 16 && one.mailbox == 0 && one.lane == 0 && one.outlet == 0 && one.life == 1000000);
     CHECK(one.orders == 1000000 && one.clock == 1000000 && one.chapter == 65536 && one.chapters == 1000);
     std::vector<Robot> at_0 = {{0, {0, 0, 0, 0}}};
     CHECK(is(opening(RING, at_0, one), NASHIRUDDER_DONE));
@@ -454,7 +454,9 @@ static void compared() {
     const Judgement judged = fleet.go(0, 0, 8), other = fleet.go(0, 0, 5);
     CHECK(judged.verdict == Verdict::accepted && Verdict::blocked == other.verdict && judged.verdict != Verdict::blocked);
     CHECK(judged == judged && judged != other && fleet.standings()[0].state == State::busy);
-    CHECK(fleet.limits() == default_setup() && fleet.limits() != endless_setup());
+    Setup fitted = default_setup();
+    fitted.lane = fitted.outlet = fitted.mailbox = 64;
+    CHECK(fleet.limits() == fitted && fleet.limits() != endless_setup());
     CHECK(refusal_of([&] { (void)fleet.go(7, 0, 0); }).code == Code::no_client);
     Fleet moved = std::move(fleet);
     CHECK(fleet.robots() == 0 && moved.robots() == 1);
@@ -464,7 +466,7 @@ static void compared() {
 static void handed_out() {
     Setup setup = endless_setup(1);
     CHECK(setup.size == sizeof setup && setup.clients == 1 && setup.life == UINT64_C(1) << 40 && setup.orders == UINT64_C(1) << 62);
-    CHECK(setup.clock == UINT64_C(1) << 48 && setup.chapters == UINT32_MAX && setup.chapter == 65536 && setup.queue == 16 && setup.mailbox == 64);
+    CHECK(setup.clock == UINT64_C(1) << 48 && setup.chapters == UINT32_MAX && setup.chapter == 65536 && setup.queue == 16 && setup.mailbox == 0);
     setup.chapters = 3;
     setup.chapter = 2;
     Fleet fleet(RING, {{.cell = 0, .ranks = {}}}, setup);
@@ -605,6 +607,7 @@ static void limits() {
     setup.chapters = 9;
     Fleet fleet(RING, {{.cell = 0, .ranks = {}}, {.cell = 3, .ranks = {}}}, setup);
     Setup told = fleet.limits();
+    setup.lane = setup.outlet = setup.mailbox = 64; // what was 0 fits the robots
     CHECK(std::memcmp(&told, &setup, sizeof told) == 0 && fleet.robots() == 2 && fleet.clients() == 3);
     CHECK(!fleet.longest_wait() && fleet.wait_limit().value() == 2 * 10);
     CHECK(fleet.go(0, 0, 11).verdict == NASHIRUDDER_ACCEPTED);

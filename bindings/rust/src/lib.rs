@@ -10,18 +10,23 @@
 //!     fleet.tick()?;
 //! }
 //! assert_eq!(fleet.placement()?, [2]);
-//! # Ok::<(), nashirudder::Refused>(())
+//! # Ok::<(), nashirudder::Error>(())
 //! ```
 //!
 //! A fleet is `Send` and `Sync`: it may move to another thread, and several threads may look at one at once.
+//!
+//! Clients, robots and cells are passed as plain numbers or as [`Client`], [`RobotId`] and [`Cell`], which the compiler
+//! tells apart: `fleet.go(Client(0), RobotId(2), Cell(17))`. What is told has plain numbers.
 
 mod raw;
 
 use raw::{
     Handle, RawAccount, RawArrival, RawEdge, RawErrand, RawFault, RawJudgement, RawNote, RawOrder, RawSetup, RawShape, RawStanding,
 };
-use std::error::Error;
+use std::error;
 use std::fmt;
+use std::iter::FusedIterator;
+use std::sync::Arc;
 
 const DONE: u32 = 0;
 const CHAPTER_FULL: u32 = 7;
@@ -35,7 +40,8 @@ const NO_BRIDGE: u32 = 48;
 const FAR: u32 = u32::MAX;
 const NOWHERE: u32 = u32::MAX;
 
-/// The version of the header that this crate was made with. The library's has to have the same major and minor numbers.
+/// The version of the header that this crate was made with. The library's has to have the same major and minor numbers, and
+/// must not be older.
 const VERSION: u32 = 100;
 
 /// Why a call was refused.
@@ -298,23 +304,39 @@ impl Code {
     }
 }
 
-/// A call was refused; the fleet is as it was. It prints as a sentence.
-#[derive(Clone, Copy, Debug, PartialEq, Eq)]
-pub struct Refused {
+/// A call was refused; the fleet is as it was. It prints as a sentence. Two are equal if code and numbers are.
+#[derive(Clone, Debug)]
+#[non_exhaustive]
+pub struct Error {
     /// Why.
     pub code: Code,
     /// The numbers that the refusal names, as lines, rows or robots; else 0.
     pub numbers: (u64, u64),
+    source: Option<Arc<Failure>>,
 }
 
-impl Refused {
+/// The same by its earlier name.
+pub type Refused = Error;
+
+/// What a keeper of chapters may fail with.
+type Failure = dyn error::Error + Send + Sync;
+
+impl Error {
     /// The word for the code.
     pub fn name(&self) -> &'static str {
         self.code.name()
     }
 }
 
-impl fmt::Display for Refused {
+impl PartialEq for Error {
+    fn eq(&self, other: &Error) -> bool {
+        (self.code, self.numbers) == (other.code, other.numbers)
+    }
+}
+
+impl Eq for Error {}
+
+impl fmt::Display for Error {
     fn fmt(&self, f: &mut fmt::Formatter<'_>) -> fmt::Result {
         let fault = RawFault {
             first: self.numbers.0,
@@ -330,18 +352,63 @@ impl fmt::Display for Refused {
     }
 }
 
-impl Error for Refused {}
-
-fn check(code: u32) -> Result<(), Refused> {
-    match code {
-        DONE => Ok(()),
-        code => Err(Refused { code: Code::of(code), numbers: (0, 0) }),
+impl error::Error for Error {
+    /// What the keeper of chapters failed with, if that is why the chapter is still full (`Fleet::roll`).
+    fn source(&self) -> Option<&(dyn error::Error + 'static)> {
+        self.source.as_deref().map(|failure| failure as &(dyn error::Error + 'static))
     }
 }
 
-fn check_told(code: u32, fault: &RawFault) -> Result<(), Refused> {
+/// A number with a meaning, which is passed where a plain `u32` may be passed too.
+macro_rules! number {
+    ($(#[$about:meta])* $name:ident) => {
+        $(#[$about])*
+        #[derive(Clone, Copy, Debug, Default, PartialEq, Eq, PartialOrd, Ord, Hash)]
+        pub struct $name(pub u32);
+
+        impl From<u32> for $name {
+            fn from(number: u32) -> $name {
+                $name(number)
+            }
+        }
+
+        impl From<$name> for u32 {
+            fn from(name: $name) -> u32 {
+                name.0
+            }
+        }
+
+        impl fmt::Display for $name {
+            fn fmt(&self, f: &mut fmt::Formatter<'_>) -> fmt::Result {
+                self.0.fmt(f)
+            }
+        }
+    };
+}
+
+number! {
+    /// A client, by its number from 0.
+    Client
+}
+number! {
+    /// A robot, by its number from 0. (A [`Robot`] is one at the opening.)
+    RobotId
+}
+number! {
+    /// A cell: row times the map's width, plus column, both from 0.
+    Cell
+}
+
+fn check(code: u32) -> Result<(), Error> {
+    match code {
+        DONE => Ok(()),
+        code => Err(Error { code: Code::of(code), numbers: (0, 0), source: None }),
+    }
+}
+
+fn check_told(code: u32, fault: &RawFault) -> Result<(), Error> {
     match check(code) {
-        Err(refused) if fault.code == code => Err(Refused {
+        Err(refused) if fault.code == code => Err(Error {
             numbers: (fault.first, fault.second),
             ..refused
         }),
@@ -357,15 +424,17 @@ pub fn is_proved() -> bool {
 }
 
 /// The library is of this crate's version.
-fn check_version() -> Result<(), Refused> {
+fn check_version() -> Result<(), Error> {
     // SAFETY: the call takes nothing.
-    if unsafe { raw::nashirudder_version() } / 100 == VERSION / 100 {
+    let version = unsafe { raw::nashirudder_version() };
+    if version / 100 == VERSION / 100 && version >= VERSION {
         return Ok(());
     }
     check(WRONG_SIZE)
 }
 
-/// The number of clients and the limits of a fleet.
+/// The number of clients and the limits of a fleet. A `lane`, `outlet` or `mailbox` of 0, as by `new` and `endless`, fits the
+/// robots: two for each and two more, and at least 64. `Fleet::limits` tells what that comes to.
 #[derive(Clone, Copy, Debug, PartialEq, Eq, Hash)]
 pub struct Setup {
     pub life: u64,
@@ -438,7 +507,7 @@ impl Setup {
 
 /// A robot at the opening: its cell, and its ranks of the ways north, east, south and west.
 #[repr(C)]
-#[derive(Clone, Copy, Debug, PartialEq, Eq)]
+#[derive(Clone, Copy, Debug, PartialEq, Eq, Hash)]
 pub struct Robot {
     pub cell: u32,
     pub ranks: [u8; 4],
@@ -529,7 +598,7 @@ impl Verdict {
 
 /// What a tick did.
 #[repr(C)]
-#[derive(Clone, Copy, Debug, Default, PartialEq, Eq)]
+#[derive(Clone, Copy, Debug, Default, PartialEq, Eq, Hash)]
 pub struct Report {
     /// The ticks made so far, with this one.
     pub tick: u64,
@@ -552,6 +621,21 @@ pub enum Order {
 }
 
 impl Order {
+    /// The robot is to go to the cell.
+    pub fn go(client: impl Into<Client>, robot: impl Into<RobotId>, cell: impl Into<Cell>) -> Order {
+        Order::Go { client: client.into().0, robot: robot.into().0, cell: cell.into().0 }
+    }
+
+    /// The client's last order.
+    pub fn close(client: impl Into<Client>) -> Order {
+        Order::Close { client: client.into().0 }
+    }
+
+    /// The client gives up its errand of that number.
+    pub fn withdraw(client: impl Into<Client>, number: u64) -> Order {
+        Order::Withdraw { client: client.into().0, number }
+    }
+
     fn raw(&self) -> RawOrder {
         match *self {
             Order::Go { client, robot, cell } => RawOrder { number: 0, kind: 1, client, robot, cell },
@@ -564,7 +648,7 @@ impl Order {
 }
 
 /// An arrival that a tick shows.
-#[derive(Clone, Copy, Debug, PartialEq, Eq)]
+#[derive(Clone, Copy, Debug, PartialEq, Eq, Hash)]
 pub struct Arrival {
     /// The errand's number among the client's accepted errands.
     pub number: u64,
@@ -588,7 +672,7 @@ pub struct Shown {
 }
 
 /// An errand that is accepted, and neither done nor withdrawn, and where it stands.
-#[derive(Clone, Copy, Debug, PartialEq, Eq)]
+#[derive(Clone, Copy, Debug, PartialEq, Eq, Hash)]
 pub struct OpenErrand {
     /// Its number among the client's accepted errands, from 1.
     pub number: u64,
@@ -637,7 +721,7 @@ impl State {
 }
 
 /// How a robot stands.
-#[derive(Clone, Copy, Debug, PartialEq, Eq)]
+#[derive(Clone, Copy, Debug, PartialEq, Eq, Hash)]
 pub struct Standing {
     pub state: State,
     pub cell: u32,
@@ -680,7 +764,7 @@ impl Notice {
 }
 
 /// What a client has, and had.
-#[derive(Clone, Copy, Debug, PartialEq, Eq)]
+#[derive(Clone, Copy, Debug, PartialEq, Eq, Hash)]
 pub struct Account {
     /// The orders that were taken, in all chapters.
     pub taken: u64,
@@ -711,10 +795,10 @@ impl Drop for Chapter {
 
 impl Chapter {
     /// Its trace.
-    pub fn trace(&self) -> Result<String, Refused> {
+    pub fn trace(&self) -> Result<String, Error> {
         // SAFETY: the pointers are those of `text_by`.
         text_by(|text, size, length| unsafe {
-            raw::nashirudder_chapter_trace(&mut self.handle.seen(), text, size, length)
+            raw::nashirudder_chapter_trace(&self.handle, text, size, length)
         })
     }
 }
@@ -727,13 +811,49 @@ pub struct FullChapter<'a> {
 
 impl FullChapter<'_> {
     /// Its trace.
-    pub fn trace(&self) -> Result<String, Refused> {
+    pub fn trace(&self) -> Result<String, Error> {
         present_trace(self.fleet)
     }
 }
 
-/// Whether a full chapter was kept.
-type Keeper = Box<dyn FnMut(&FullChapter<'_>) -> bool + Send>;
+/// What a keeper of chapters returns: whether it kept the chapter (`bool`), or nothing if it always does, or a result, whose
+/// error is then the `source` of the refusal.
+pub trait Kept: sealed::Sealed {}
+
+impl Kept for bool {}
+impl Kept for () {}
+impl<E: Into<Box<Failure>>> Kept for Result<(), E> {}
+
+mod sealed {
+    use super::Failure;
+    use std::sync::Arc;
+
+    /// How a keeper went: it kept the chapter, or did not, for a reason that it may say.
+    pub trait Sealed {
+        fn told(self) -> Result<(), Option<Arc<Failure>>>;
+    }
+
+    impl Sealed for bool {
+        fn told(self) -> Result<(), Option<Arc<Failure>>> {
+            self.then_some(()).ok_or(None)
+        }
+    }
+
+    impl Sealed for () {
+        fn told(self) -> Result<(), Option<Arc<Failure>>> {
+            Ok(())
+        }
+    }
+
+    impl<E: Into<Box<Failure>>> Sealed for Result<(), E> {
+        fn told(self) -> Result<(), Option<Arc<Failure>>> {
+            self.map_err(|failure| Some(Arc::from(failure.into())))
+        }
+    }
+}
+
+/// Keeps a full chapter, or says why not.
+type Keeper = Box<dyn FnMut(&FullChapter<'_>) -> Result<(), Option<Arc<Failure>>> + Send>;
 
 /// A fleet.
 pub struct Fleet {
@@ -752,7 +872,7 @@ impl fmt::Debug for Fleet {
 }
 
 // SAFETY: the library proves that what a handle owns may move between threads, and what keeps chapters may. The methods with
-// `&self` only call what looks, each with a copy of the handle: what the handle owns is then only read, and nothing is kept.
+// `&self` only call what looks, for which the library copies the handle: it and what it owns are then only read, and nothing is kept.
 unsafe impl Send for Fleet {}
 unsafe impl Sync for Fleet {}
 
@@ -765,17 +885,17 @@ impl Drop for Fleet {
 
 impl Fleet {
     /// A fleet on the map, the text of a .map file, each robot on its start.
-    pub fn open(map: &[u8], robots: &[Robot], setup: &Setup) -> Result<Fleet, Refused> {
+    pub fn open(map: &[u8], robots: &[Robot], setup: &Setup) -> Result<Fleet, Error> {
         Fleet::open_by(raw::nashirudder_open, map, robots, setup)
     }
 
     /// The same fleet, but it takes no errand to a floor cell that is not roomy for its robots: an order to one is refused by
     /// `Code::NoRoom` before it is taken. `Map::unroomy` says which cells these are.
-    pub fn open_roomy(map: &[u8], robots: &[Robot], setup: &Setup) -> Result<Fleet, Refused> {
+    pub fn open_roomy(map: &[u8], robots: &[Robot], setup: &Setup) -> Result<Fleet, Error> {
         Fleet::open_by(raw::nashirudder_open_roomy, map, robots, setup)
     }
 
-    fn open_by(call: raw::Open, map: &[u8], robots: &[Robot], setup: &Setup) -> Result<Fleet, Refused> {
+    fn open_by(call: raw::Open, map: &[u8], robots: &[Robot], setup: &Setup) -> Result<Fleet, Error> {
         check_version()?;
         let setup = setup.raw();
         let mut fleet = Fleet::closed(robots.len());
@@ -802,7 +922,7 @@ impl Fleet {
         trace: &str,
         robots: &[Robot],
         setup: &Setup,
-    ) -> Result<Fleet, Refused> {
+    ) -> Result<Fleet, Error> {
         Fleet::reopen_by(raw::nashirudder_reopen, map, trace, robots, setup)
     }
 
@@ -813,7 +933,7 @@ impl Fleet {
         trace: &str,
         robots: &[Robot],
         setup: &Setup,
-    ) -> Result<Fleet, Refused> {
+    ) -> Result<Fleet, Error> {
         Fleet::reopen_by(raw::nashirudder_reopen_roomy, map, trace, robots, setup)
     }
 
@@ -823,7 +943,7 @@ impl Fleet {
         trace: &str,
         robots: &[Robot],
         setup: &Setup,
-    ) -> Result<Fleet, Refused> {
+    ) -> Result<Fleet, Error> {
         check_version()?;
         let setup = setup.raw();
         let mut fleet = Fleet::closed(robots.len());
@@ -858,15 +978,16 @@ impl Fleet {
     }
 
     /// From now on an order, a tick or a shut that finds the chapter full is made in the next one; `keep` is shown the full one
-    /// first, and returns whether it kept it (`|_| true` drops each). Where it returns false the call is refused by
-    /// `Code::ChapterFull`; then, and where it panics, fleet and chapter are as they were, and the next call shows the chapter
-    /// again. In the last of all chapters the call is refused by `Code::ChapterFull` too, and `keep` is not called.
-    pub fn roll(&mut self, keep: impl FnMut(&FullChapter<'_>) -> bool + Send + 'static) {
-        self.keeper = Some(Box::new(keep));
+    /// first, and returns whether it kept it: a `bool`, a `Result<(), E>`, or nothing (`|_| ()` drops each). Where it did not
+    /// the call is refused by `Code::ChapterFull`, whose `source` is the keeper's error; then, and where it panics, fleet and
+    /// chapter are as they were, and the next call shows the chapter again. In the last of all chapters the call is refused by
+    /// `Code::ChapterFull` too, and `keep` is not called.
+    pub fn roll<K: Kept>(&mut self, mut keep: impl FnMut(&FullChapter<'_>) -> K + Send + 'static) {
+        self.keeper = Some(Box::new(move |full| keep(full).told()));
     }
 
     /// A call that may find the chapter full.
-    fn in_chapter(&mut self, mut call: impl FnMut(&mut Handle) -> u32) -> Result<u32, Refused> {
+    fn in_chapter(&mut self, mut call: impl FnMut(&mut Handle) -> u32) -> Result<u32, Error> {
         let code = call(&mut self.handle);
         if code != CHAPTER_FULL || !self.is_full_kept()? {
             return Ok(code);
@@ -875,21 +996,26 @@ impl Fleet {
         Ok(call(&mut self.handle))
     }
 
-    /// Whether the next chapter is to begin: one may follow, and the keeper, if there is one, kept the full one.
-    fn is_full_kept(&mut self) -> Result<bool, Refused> {
+    /// Whether the next chapter is to begin: one may follow, and the keeper, if there is one, kept the full one. Where it did
+    /// not the call is refused.
+    fn is_full_kept(&mut self) -> Result<bool, Error> {
         if self.keeper.is_none() || self.number + 1 >= u64::from(self.limits()?.chapters) {
             return Ok(false);
         }
         let full = FullChapter { fleet: &self.handle };
-        Ok(self.keeper.as_mut().is_some_and(|keep| keep(&full)))
+        match self.keeper.as_mut().map(|keep| keep(&full)) {
+            Some(Err(source)) => Err(Error { code: Code::ChapterFull, numbers: (0, 0), source }),
+            kept => Ok(kept.is_some()),
+        }
     }
 
-    fn judged(code: u32, told: RawJudgement) -> Result<Verdict, Refused> {
+    fn judged(code: u32, told: RawJudgement) -> Result<Verdict, Error> {
         check(code).map(|()| Verdict::of(told.verdict, told.number))
     }
 
     /// The client orders the robot to the cell.
-    pub fn go(&mut self, client: u32, robot: u32, cell: u32) -> Result<Verdict, Refused> {
+    pub fn go(&mut self, client: impl Into<Client>, robot: impl Into<RobotId>, cell: impl Into<Cell>) -> Result<Verdict, Error> {
+        let (client, robot, cell) = (client.into().0, robot.into().0, cell.into().0);
         let mut told = RawJudgement::default();
         let code = self.in_chapter(|handle| unsafe {
             raw::nashirudder_go(handle, client, robot, cell, &mut told)
@@ -898,7 +1024,8 @@ impl Fleet {
     }
 
     /// The client's last order.
-    pub fn close_client(&mut self, client: u32) -> Result<Verdict, Refused> {
+    pub fn close_client(&mut self, client: impl Into<Client>) -> Result<Verdict, Error> {
+        let client = client.into().0;
         let mut told = RawJudgement::default();
         let code = self.in_chapter(|handle| unsafe {
             raw::nashirudder_close_client(handle, client, &mut told)
@@ -907,7 +1034,8 @@ impl Fleet {
     }
 
     /// The client gives up its accepted errand of that number.
-    pub fn withdraw(&mut self, client: u32, number: u64) -> Result<Verdict, Refused> {
+    pub fn withdraw(&mut self, client: impl Into<Client>, number: u64) -> Result<Verdict, Error> {
+        let client = client.into().0;
         let mut told = RawJudgement::default();
         let code = self.in_chapter(|handle| unsafe {
             raw::nashirudder_withdraw(handle, client, number, &mut told)
@@ -917,7 +1045,7 @@ impl Fleet {
 
     /// Takes orders one after the other until one is refused. The verdicts of those that were taken, and why the next one was
     /// refused, if one was.
-    pub fn take_many(&mut self, orders: &[Order]) -> Result<(Vec<Verdict>, Option<Code>), Refused> {
+    pub fn take_many(&mut self, orders: &[Order]) -> Result<(Vec<Verdict>, Option<Code>), Error> {
         let asked: Vec<RawOrder> = orders.iter().map(Order::raw).collect();
         let mut told: Vec<RawJudgement> = orders.iter().map(|_| RawJudgement::default()).collect();
         let mut taken = 0;
@@ -954,7 +1082,7 @@ impl Fleet {
     }
 
     /// All robots make one step.
-    pub fn tick(&mut self) -> Result<Report, Refused> {
+    pub fn tick(&mut self) -> Result<Report, Error> {
         let mut report = Report::default();
         let code = self.in_chapter(|handle| unsafe { raw::nashirudder_tick(handle, &mut report) })?;
         check(code)?;
@@ -962,7 +1090,7 @@ impl Fleet {
     }
 
     /// The same, with what the tick shows.
-    pub fn tick_into(&mut self, shown: &mut Shown) -> Result<Report, Refused> {
+    pub fn tick_into(&mut self, shown: &mut Shown) -> Result<Report, Error> {
         let mut report = Report::default();
         shown.cells.resize(self.robots, 0);
         shown.farewells.resize(self.robots, 0);
@@ -988,7 +1116,8 @@ impl Fleet {
     }
 
     /// The robot gets no more errands. Whether it has none, and so took its leave at once.
-    pub fn shut(&mut self, robot: u32) -> Result<bool, Refused> {
+    pub fn shut(&mut self, robot: impl Into<RobotId>) -> Result<bool, Error> {
+        let robot = robot.into().0;
         let mut left = false;
         let code = self.in_chapter(|handle| unsafe { raw::nashirudder_shut(handle, robot, &mut left) })?;
         check(code)?;
@@ -996,7 +1125,8 @@ impl Fleet {
     }
 
     /// The client's next notice, if there is one.
-    pub fn give(&mut self, client: u32) -> Result<Option<Notice>, Refused> {
+    pub fn give(&mut self, client: impl Into<Client>) -> Result<Option<Notice>, Error> {
+        let client = client.into().0;
         let mut note = RawNote::default();
         match unsafe { raw::nashirudder_give(&mut self.handle, client, &mut note) } {
             NO_NOTICE => Ok(None),
@@ -1005,20 +1135,13 @@ impl Fleet {
     }
 
     /// The client's notices that it was not given yet, one after the other. It ends at the first refusal.
-    pub fn notices(&mut self, client: u32) -> impl Iterator<Item = Result<Notice, Refused>> + '_ {
-        let mut is_refused = false;
-        std::iter::from_fn(move || {
-            if is_refused {
-                return None;
-            }
-            let told = self.give(client).transpose();
-            is_refused = matches!(told, Some(Err(_)));
-            told
-        })
+    pub fn notices(&mut self, client: impl Into<Client>) -> Notices<'_> {
+        Notices { fleet: self, client: client.into(), is_over: false }
     }
 
     /// All notices that the client was not given yet.
-    pub fn give_all(&mut self, client: u32) -> Result<Vec<Notice>, Refused> {
+    pub fn give_all(&mut self, client: impl Into<Client>) -> Result<Vec<Notice>, Error> {
+        let client = client.into().0;
         let pending = self.pending_count(client)? as usize;
         let mut notes: Vec<RawNote> = (0..pending).map(|_| RawNote::default()).collect();
         let mut count = 0;
@@ -1036,9 +1159,10 @@ impl Fleet {
     }
 
     /// The notice that `give` would give, which stays in the mailbox.
-    pub fn peek(&self, client: u32) -> Result<Option<Notice>, Refused> {
+    pub fn peek(&self, client: impl Into<Client>) -> Result<Option<Notice>, Error> {
+        let client = client.into().0;
         let mut note = RawNote::default();
-        match unsafe { raw::nashirudder_peek(&mut self.handle.seen(), client, &mut note) } {
+        match unsafe { raw::nashirudder_peek(&self.handle, client, &mut note) } {
             NO_NOTICE => Ok(None),
             code => check(code).map(|()| Some(Notice::of(&note))),
         }
@@ -1050,151 +1174,157 @@ impl Fleet {
     }
 
     /// How many clients there are.
-    pub fn clients(&self) -> Result<usize, Refused> {
+    pub fn clients(&self) -> Result<usize, Error> {
         let mut count = 0;
-        check(unsafe { raw::nashirudder_clients(&mut self.handle.seen(), &mut count) })?;
+        check(unsafe { raw::nashirudder_clients(&self.handle, &mut count) })?;
         Ok(count)
     }
 
     /// The limits, and the number of clients.
-    pub fn limits(&self) -> Result<Setup, Refused> {
+    pub fn limits(&self) -> Result<Setup, Error> {
         let mut setup = RawSetup::default();
-        check(unsafe { raw::nashirudder_limits(&mut self.handle.seen(), &mut setup) })?;
+        check(unsafe { raw::nashirudder_limits(&self.handle, &mut setup) })?;
         Ok(Setup::of(&setup))
     }
 
     /// How long the robot that has waited longest has waited, if one has an errand.
-    pub fn longest_wait(&self) -> Result<Option<u64>, Refused> {
+    pub fn longest_wait(&self) -> Result<Option<u64>, Error> {
         let mut ticks = 0;
-        match unsafe { raw::nashirudder_longest_wait(&mut self.handle.seen(), &mut ticks) } {
+        match unsafe { raw::nashirudder_longest_wait(&self.handle, &mut ticks) } {
             IDLE => Ok(None),
             code => check(code).map(|()| Some(ticks)),
         }
     }
 
     /// A number of ticks that no wait reaches; none on a map with a bridge.
-    pub fn wait_limit(&self) -> Result<Option<u64>, Refused> {
+    pub fn wait_limit(&self) -> Result<Option<u64>, Error> {
         let mut ticks = 0;
-        match unsafe { raw::nashirudder_wait_limit(&mut self.handle.seen(), &mut ticks) } {
+        match unsafe { raw::nashirudder_wait_limit(&self.handle, &mut ticks) } {
             HAS_BRIDGE => Ok(None),
             code => check(code).map(|()| Some(ticks)),
         }
     }
 
     /// How many notices the client was not given yet.
-    pub fn pending_count(&self, client: u32) -> Result<u64, Refused> {
+    pub fn pending_count(&self, client: impl Into<Client>) -> Result<u64, Error> {
+        let client = client.into().0;
         let mut count = 0;
-        check(unsafe { raw::nashirudder_pending_count(&mut self.handle.seen(), client, &mut count) })?;
+        check(unsafe { raw::nashirudder_pending_count(&self.handle, client, &mut count) })?;
         Ok(count)
     }
 
     /// How many orders of the client were taken, how many errands it has open, how many notices, and the room for both.
-    pub fn account_of(&self, client: u32) -> Result<Account, Refused> {
+    pub fn account_of(&self, client: impl Into<Client>) -> Result<Account, Error> {
+        let client = client.into().0;
         let mut told = RawAccount::default();
-        check(unsafe { raw::nashirudder_account_of(&mut self.handle.seen(), client, &mut told) })?;
+        check(unsafe { raw::nashirudder_account_of(&self.handle, client, &mut told) })?;
         let RawAccount { taken, owed, pending, room } = told;
         Ok(Account { taken, owed, pending, room })
     }
 
     /// Lets the client's mailbox hold this many more notices and unfinished errands.
-    pub fn widen(&mut self, client: u32, extra: u64) -> Result<(), Refused> {
+    pub fn widen(&mut self, client: impl Into<Client>, extra: u64) -> Result<(), Error> {
+        let client = client.into().0;
         check(unsafe { raw::nashirudder_widen(&mut self.handle, client, extra) })
     }
 
     /// Where the robots stand, by number.
-    pub fn placement(&self) -> Result<Vec<u32>, Refused> {
+    pub fn placement(&self) -> Result<Vec<u32>, Error> {
         let mut cells = vec![0; self.robots];
         self.placement_into(&mut cells)?;
         Ok(cells)
     }
 
     /// The same, into a list that has one place for each robot; else it is refused by `Code::WrongLength`.
-    pub fn placement_into(&self, cells: &mut [u32]) -> Result<(), Refused> {
+    pub fn placement_into(&self, cells: &mut [u32]) -> Result<(), Error> {
         // SAFETY: a slice's pointer is never null, and its length is true.
-        check(unsafe { raw::nashirudder_placement(&mut self.handle.seen(), cells.as_mut_ptr(), cells.len()) })
+        check(unsafe { raw::nashirudder_placement(&self.handle, cells.as_mut_ptr(), cells.len()) })
     }
 
     /// How each robot stands, by number.
-    pub fn standings(&self) -> Result<Vec<Standing>, Refused> {
+    pub fn standings(&self) -> Result<Vec<Standing>, Error> {
         let mut told = vec![RawStanding::default(); self.robots];
         // SAFETY: a vector's pointer is never null, and its length is true.
         check(unsafe {
-            raw::nashirudder_standings(&mut self.handle.seen(), told.as_mut_ptr(), told.len())
+            raw::nashirudder_standings(&self.handle, told.as_mut_ptr(), told.len())
         })?;
         Ok(told.iter().map(Standing::of).collect())
     }
 
     /// The robot's errands, in the order of its queue.
-    pub fn queue(&self, robot: u32) -> Result<Vec<OpenErrand>, Refused> {
+    pub fn queue(&self, robot: impl Into<RobotId>) -> Result<Vec<OpenErrand>, Error> {
+        let robot = robot.into().0;
         // SAFETY: the pointers are those of `listed`.
         listed(|list, length, count| unsafe {
-            raw::nashirudder_queue(&mut self.handle.seen(), robot, list, length, count)
+            raw::nashirudder_queue(&self.handle, robot, list, length, count)
         })
     }
 
     /// The client's errands that are accepted, and neither done nor withdrawn: by robot, and then by place in its queue.
-    pub fn open_errands(&self, client: u32) -> Result<Vec<OpenErrand>, Refused> {
+    pub fn open_errands(&self, client: impl Into<Client>) -> Result<Vec<OpenErrand>, Error> {
+        let client = client.into().0;
         // SAFETY: the pointers are those of `listed`.
         listed(|list, length, count| unsafe {
-            raw::nashirudder_open_errands(&mut self.handle.seen(), client, list, length, count)
+            raw::nashirudder_open_errands(&self.handle, client, list, length, count)
         })
     }
 
     /// The ticks made so far.
-    pub fn clock(&self) -> Result<u64, Refused> {
+    pub fn clock(&self) -> Result<u64, Error> {
         let mut ticks = 0;
-        check(unsafe { raw::nashirudder_clock(&mut self.handle.seen(), &mut ticks) })?;
+        check(unsafe { raw::nashirudder_clock(&self.handle, &mut ticks) })?;
         Ok(ticks)
     }
 
     /// How many ticks the robot has waited, if it has an errand.
-    pub fn wait_of(&self, robot: u32) -> Result<Option<u64>, Refused> {
+    pub fn wait_of(&self, robot: impl Into<RobotId>) -> Result<Option<u64>, Error> {
+        let robot = robot.into().0;
         let mut ticks = 0;
-        match unsafe { raw::nashirudder_wait_of(&mut self.handle.seen(), robot, &mut ticks) } {
+        match unsafe { raw::nashirudder_wait_of(&self.handle, robot, &mut ticks) } {
             IDLE => Ok(None),
             code => check(code).map(|()| Some(ticks)),
         }
     }
 
     /// The robot that has waited longest, if one has an errand.
-    pub fn eldest(&self) -> Result<Option<u32>, Refused> {
+    pub fn eldest(&self) -> Result<Option<u32>, Error> {
         let mut robot = 0;
-        match unsafe { raw::nashirudder_eldest(&mut self.handle.seen(), &mut robot) } {
+        match unsafe { raw::nashirudder_eldest(&self.handle, &mut robot) } {
             IDLE => Ok(None),
             code => check(code).map(|()| Some(robot)),
         }
     }
 
     /// Whether nobody has an errand.
-    pub fn is_idle(&self) -> Result<bool, Refused> {
+    pub fn is_idle(&self) -> Result<bool, Error> {
         let mut is_idle = false;
-        check(unsafe { raw::nashirudder_is_idle(&mut self.handle.seen(), &mut is_idle) })?;
+        check(unsafe { raw::nashirudder_is_idle(&self.handle, &mut is_idle) })?;
         Ok(is_idle)
     }
 
     /// Within how many ticks nobody has an errand any more; none on a map with a bridge.
-    pub fn idle_within(&self) -> Result<Option<u64>, Refused> {
+    pub fn idle_within(&self) -> Result<Option<u64>, Error> {
         let mut ticks = 0;
-        match unsafe { raw::nashirudder_idle_within(&mut self.handle.seen(), &mut ticks) } {
+        match unsafe { raw::nashirudder_idle_within(&self.handle, &mut ticks) } {
             HAS_BRIDGE => Ok(None),
             code => check(code).map(|()| Some(ticks)),
         }
     }
 
     /// Whether the map has no bridge.
-    pub fn is_bridgeless(&self) -> Result<bool, Refused> {
+    pub fn is_bridgeless(&self) -> Result<bool, Error> {
         let mut is_bridgeless = false;
-        check(unsafe { raw::nashirudder_is_bridgeless(&mut self.handle.seen(), &mut is_bridgeless) })?;
+        check(unsafe { raw::nashirudder_is_bridgeless(&self.handle, &mut is_bridgeless) })?;
         Ok(is_bridgeless)
     }
 
     /// The trace of the present chapter.
-    pub fn trace(&self) -> Result<String, Refused> {
+    pub fn trace(&self) -> Result<String, Error> {
         present_trace(&self.handle)
     }
 
     /// Begins the next chapter, and hands out the one that ended.
-    pub fn hand_out(&mut self) -> Result<Chapter, Refused> {
+    pub fn hand_out(&mut self) -> Result<Chapter, Error> {
         let mut ended = Chapter { handle: Handle::CLOSED };
         check(unsafe {
             raw::nashirudder_next_chapter_into(&mut self.handle, &mut ended.handle)
@@ -1204,22 +1334,46 @@ impl Fleet {
     }
 
     /// Begins the next chapter; the entries of the present one are let go.
-    pub fn next_chapter(&mut self) -> Result<(), Refused> {
+    pub fn next_chapter(&mut self) -> Result<(), Error> {
         check(unsafe { raw::nashirudder_next_chapter(&mut self.handle) })?;
         self.number += 1;
         Ok(())
     }
 
     /// Keeps distances to goals that no robot has any more, up to this many bytes.
-    pub fn keep(&mut self, bytes: usize) -> Result<(), Refused> {
+    pub fn keep(&mut self, bytes: usize) -> Result<(), Error> {
         check(unsafe { raw::nashirudder_keep(&mut self.handle, bytes) })
     }
 }
 
+/// The notices of a client, which leave its mailbox one after the other: what `Fleet::notices` returns.
+#[must_use = "a notice leaves the mailbox only when it is asked for"]
+#[derive(Debug)]
+pub struct Notices<'a> {
+    fleet: &'a mut Fleet,
+    client: Client,
+    is_over: bool,
+}
+
+impl Iterator for Notices<'_> {
+    type Item = Result<Notice, Error>;
+
+    fn next(&mut self) -> Option<Result<Notice, Error>> {
+        if self.is_over {
+            return None;
+        }
+        let told = self.fleet.give(self.client).transpose();
+        self.is_over = !matches!(told, Some(Ok(_)));
+        told
+    }
+}
+
+impl FusedIterator for Notices<'_> {}
+
 /// The trace of a fleet's present chapter.
-fn present_trace(fleet: &Handle) -> Result<String, Refused> {
+fn present_trace(fleet: &Handle) -> Result<String, Error> {
     // SAFETY: the pointers are those of `text_by`.
-    text_by(|text, size, length| unsafe { raw::nashirudder_trace(&mut fleet.seen(), text, size, length) })
+    text_by(|text, size, length| unsafe { raw::nashirudder_trace(fleet, text, size, length) })
 }
 
 /// The number of a chapter, with which the library's trace begins: `{"chapter":N,`.
@@ -1229,7 +1383,7 @@ fn number_in(trace: &str) -> u64 {
 }
 
 /// A chapter's text, by a call that says how long it is. It is passed a vector's pointer and length.
-fn text_by(call: impl Fn(*mut u8, usize, &mut usize) -> u32) -> Result<String, Refused> {
+fn text_by(call: impl Fn(*mut u8, usize, &mut usize) -> u32) -> Result<String, Error> {
     let (mut text, mut length) = (vec![0; 1024], 0);
     let mut code = call(text.as_mut_ptr(), text.len(), &mut length);
     if code == WRONG_LENGTH {
@@ -1244,7 +1398,7 @@ fn text_by(call: impl Fn(*mut u8, usize, &mut usize) -> u32) -> Result<String, R
 /// A list of errands, by a call that says how many places it needs. It is passed a vector's pointer and length.
 fn listed(
     call: impl Fn(*mut RawErrand, usize, &mut usize) -> u32,
-) -> Result<Vec<OpenErrand>, Refused> {
+) -> Result<Vec<OpenErrand>, Error> {
     let (mut list, mut count) = (vec![RawErrand::default(); 16], 0);
     let mut code = call(list.as_mut_ptr(), list.len(), &mut count);
     if code == WRONG_LENGTH {
@@ -1313,7 +1467,7 @@ impl Notice {
 }
 
 /// How large a map is.
-#[derive(Clone, Copy, Debug, PartialEq, Eq)]
+#[derive(Clone, Copy, Debug, PartialEq, Eq, Hash)]
 pub struct Shape {
     pub height: u32,
     pub width: u32,
@@ -1348,7 +1502,7 @@ impl Drop for Map {
 
 impl Map {
     /// The map of the text of a .map file.
-    pub fn open(text: &[u8]) -> Result<Map, Refused> {
+    pub fn open(text: &[u8]) -> Result<Map, Error> {
         check_version()?;
         let mut map = Map { handle: Handle::CLOSED };
         let mut fault = RawFault::default();
@@ -1360,27 +1514,40 @@ impl Map {
     }
 
     /// How large it is.
-    pub fn shape(&self) -> Result<Shape, Refused> {
+    pub fn shape(&self) -> Result<Shape, Error> {
         let mut shape = RawShape::default();
-        check(unsafe { raw::nashirudder_map_shape(&mut self.handle.seen(), &mut shape) })?;
+        check(unsafe { raw::nashirudder_map_shape(&self.handle, &mut shape) })?;
         let RawShape { height, width, cells, floor, edges } = shape;
         Ok(Shape { height, width, cells, floor, edges })
     }
 
     /// Whether both cells are floor, and a walk joins them.
-    pub fn joins(&self, a: u32, b: u32) -> Result<bool, Refused> {
+    pub fn joins(&self, a: impl Into<Cell>, b: impl Into<Cell>) -> Result<bool, Error> {
+        let (a, b) = (a.into().0, b.into().0);
         let mut joins = false;
-        check(unsafe { raw::nashirudder_map_joins(&mut self.handle.seen(), a, b, &mut joins) })?;
+        check(unsafe { raw::nashirudder_map_joins(&self.handle, a, b, &mut joins) })?;
         Ok(joins)
     }
 
+    /// The cells that are floor, in their order.
+    pub fn floor(&self) -> Result<Vec<u32>, Error> {
+        let shape = self.shape()?;
+        let mut floor = Vec::with_capacity(shape.floor as usize);
+        for cell in 0..shape.cells {
+            if self.joins(cell, cell)? {
+                floor.push(cell);
+            }
+        }
+        Ok(floor)
+    }
+
     /// Whether a step is free of conflicts, or its first fault.
-    pub fn check_step(&self, from: &[u32], to: &[u32]) -> Result<(), Refused> {
+    pub fn check_step(&self, from: &[u32], to: &[u32]) -> Result<(), Error> {
         let mut fault = RawFault::default();
         // SAFETY: a slice's pointer is never null, and its length is true.
         let code = unsafe {
             raw::nashirudder_map_check_step(
-                &mut self.handle.seen(),
+                &self.handle,
                 from.as_ptr(),
                 from.len(),
                 to.as_ptr(),
@@ -1392,31 +1559,32 @@ impl Map {
     }
 
     /// The first bridge, if there is one.
-    pub fn first_bridge(&self) -> Result<Option<(u32, u32)>, Refused> {
+    pub fn first_bridge(&self) -> Result<Option<(u32, u32)>, Error> {
         let mut edge = RawEdge::default();
-        match unsafe { raw::nashirudder_map_first_bridge(&mut self.handle.seen(), &mut edge) } {
+        match unsafe { raw::nashirudder_map_first_bridge(&self.handle, &mut edge) } {
             NO_BRIDGE => Ok(None),
             code => check(code).map(|()| Some((edge.lower, edge.upper))),
         }
     }
 
     /// For each cell, the length of a shortest walk to the goal.
-    pub fn distances(&self, goal: u32) -> Result<Vec<Option<u32>>, Refused> {
+    pub fn distances(&self, goal: impl Into<Cell>) -> Result<Vec<Option<u32>>, Error> {
+        let goal = goal.into().0;
         let mut told = vec![0; self.shape()?.cells as usize];
         // SAFETY: a vector's pointer is never null, and its length is true.
         check(unsafe {
-            raw::nashirudder_map_distances(&mut self.handle.seen(), goal, told.as_mut_ptr(), told.len())
+            raw::nashirudder_map_distances(&self.handle, goal, told.as_mut_ptr(), told.len())
         })?;
         Ok(ways_of(told))
     }
 
     /// The floor cells that are not roomy for this many robots, in their order: errands there may block a fleet of them for
     /// ever (`Fleet::open_roomy`).
-    pub fn unroomy(&self, robots: u32) -> Result<Vec<u32>, Refused> {
+    pub fn unroomy(&self, robots: u32) -> Result<Vec<u32>, Error> {
         let (mut cells, mut count) = (vec![0; 64], 0);
         // SAFETY: a vector's pointer is never null, and its length is true.
         let mut call = |cells: &mut Vec<u32>| unsafe {
-            raw::nashirudder_map_unroomy(&mut self.handle.seen(), robots, cells.as_mut_ptr(), cells.len(), &mut count)
+            raw::nashirudder_map_unroomy(&self.handle, robots, cells.as_mut_ptr(), cells.len(), &mut count)
         };
         let mut code = call(&mut cells);
         if code == WRONG_LENGTH {
@@ -1430,7 +1598,7 @@ impl Map {
 }
 
 /// Whether a step is free of conflicts, or its first fault.
-pub fn check_step(map: &[u8], from: &[u32], to: &[u32]) -> Result<(), Refused> {
+pub fn check_step(map: &[u8], from: &[u32], to: &[u32]) -> Result<(), Error> {
     let mut fault = RawFault::default();
     // SAFETY: a slice's pointer is never null, and its length is true.
     let code = unsafe {
@@ -1448,7 +1616,7 @@ pub fn check_step(map: &[u8], from: &[u32], to: &[u32]) -> Result<(), Refused> {
 }
 
 /// Whether a text is the trace of a chapter that is legal on the map, or why it is not.
-pub fn judge(map: &[u8], trace: &str) -> Result<(), Refused> {
+pub fn judge(map: &[u8], trace: &str) -> Result<(), Error> {
     let mut fault = RawFault::default();
     // SAFETY: a slice's pointer is never null, and its length is true.
     let code = unsafe {
@@ -1458,7 +1626,7 @@ pub fn judge(map: &[u8], trace: &str) -> Result<(), Refused> {
 }
 
 /// The map's first bridge, if it has one.
-pub fn first_bridge(map: &[u8]) -> Result<Option<(u32, u32)>, Refused> {
+pub fn first_bridge(map: &[u8]) -> Result<Option<(u32, u32)>, Error> {
     let (mut edge, mut fault) = (RawEdge::default(), RawFault::default());
     // SAFETY: a slice's pointer is never null, and its length is true.
     match unsafe {
@@ -1470,7 +1638,7 @@ pub fn first_bridge(map: &[u8]) -> Result<Option<(u32, u32)>, Refused> {
 }
 
 /// For each of the map's cells, `cells` of them, the length of a shortest walk to the goal.
-pub fn distances(map: &[u8], goal: u32, cells: usize) -> Result<Vec<Option<u32>>, Refused> {
+pub fn distances(map: &[u8], goal: u32, cells: usize) -> Result<Vec<Option<u32>>, Error> {
     let (mut told, mut fault) = (vec![0; cells], RawFault::default());
     // SAFETY: a slice's pointer is never null, and its length is true.
     let code = unsafe {

@@ -12,15 +12,6 @@ impl Handle {
         at: std::ptr::null_mut(),
         is_open: false,
     };
-
-    /// A copy for a call that only looks: the library takes a handle for itself and puts back what it found, so that two
-    /// calls at once need two.
-    pub(crate) fn seen(&self) -> Handle {
-        Handle {
-            at: self.at,
-            is_open: self.is_open,
-        }
-    }
 }
 
 #[repr(C)]
@@ -213,11 +204,11 @@ extern "C" {
         notes_length: usize,
         count: *mut usize,
     ) -> u32;
-    pub(crate) fn nashirudder_peek(fleet: *mut Handle, client: u32, note: *mut RawNote) -> u32;
-    pub(crate) fn nashirudder_clients(fleet: *mut Handle, count: *mut usize) -> u32;
-    pub(crate) fn nashirudder_limits(fleet: *mut Handle, setup: *mut RawSetup) -> u32;
-    pub(crate) fn nashirudder_longest_wait(fleet: *mut Handle, ticks: *mut u64) -> u32;
-    pub(crate) fn nashirudder_wait_limit(fleet: *mut Handle, ticks: *mut u64) -> u32;
+    pub(crate) fn nashirudder_peek(fleet: *const Handle, client: u32, note: *mut RawNote) -> u32;
+    pub(crate) fn nashirudder_clients(fleet: *const Handle, count: *mut usize) -> u32;
+    pub(crate) fn nashirudder_limits(fleet: *const Handle, setup: *mut RawSetup) -> u32;
+    pub(crate) fn nashirudder_longest_wait(fleet: *const Handle, ticks: *mut u64) -> u32;
+    pub(crate) fn nashirudder_wait_limit(fleet: *const Handle, ticks: *mut u64) -> u32;
     pub(crate) fn nashirudder_open(
         map: *const u8,
         map_length: usize,
@@ -259,48 +250,48 @@ extern "C" {
     pub(crate) fn nashirudder_shut(fleet: *mut Handle, robot: u32, left: *mut bool) -> u32;
     pub(crate) fn nashirudder_give(fleet: *mut Handle, client: u32, note: *mut RawNote) -> u32;
     pub(crate) fn nashirudder_pending_count(
-        fleet: *mut Handle,
+        fleet: *const Handle,
         client: u32,
         count: *mut u64,
     ) -> u32;
     pub(crate) fn nashirudder_account_of(
-        fleet: *mut Handle,
+        fleet: *const Handle,
         client: u32,
         account: *mut RawAccount,
     ) -> u32;
     pub(crate) fn nashirudder_widen(fleet: *mut Handle, client: u32, extra: u64) -> u32;
     pub(crate) fn nashirudder_placement(
-        fleet: *mut Handle,
+        fleet: *const Handle,
         cells: *mut u32,
         cells_length: usize,
     ) -> u32;
     pub(crate) fn nashirudder_standings(
-        fleet: *mut Handle,
+        fleet: *const Handle,
         standings: *mut RawStanding,
         standings_length: usize,
     ) -> u32;
     pub(crate) fn nashirudder_queue(
-        fleet: *mut Handle,
+        fleet: *const Handle,
         robot: u32,
         errands: *mut RawErrand,
         errands_length: usize,
         count: *mut usize,
     ) -> u32;
     pub(crate) fn nashirudder_open_errands(
-        fleet: *mut Handle,
+        fleet: *const Handle,
         client: u32,
         errands: *mut RawErrand,
         errands_length: usize,
         count: *mut usize,
     ) -> u32;
-    pub(crate) fn nashirudder_clock(fleet: *mut Handle, ticks: *mut u64) -> u32;
-    pub(crate) fn nashirudder_wait_of(fleet: *mut Handle, robot: u32, ticks: *mut u64) -> u32;
-    pub(crate) fn nashirudder_eldest(fleet: *mut Handle, robot: *mut u32) -> u32;
-    pub(crate) fn nashirudder_is_idle(fleet: *mut Handle, is_idle: *mut bool) -> u32;
-    pub(crate) fn nashirudder_idle_within(fleet: *mut Handle, ticks: *mut u64) -> u32;
-    pub(crate) fn nashirudder_is_bridgeless(fleet: *mut Handle, is_bridgeless: *mut bool) -> u32;
+    pub(crate) fn nashirudder_clock(fleet: *const Handle, ticks: *mut u64) -> u32;
+    pub(crate) fn nashirudder_wait_of(fleet: *const Handle, robot: u32, ticks: *mut u64) -> u32;
+    pub(crate) fn nashirudder_eldest(fleet: *const Handle, robot: *mut u32) -> u32;
+    pub(crate) fn nashirudder_is_idle(fleet: *const Handle, is_idle: *mut bool) -> u32;
+    pub(crate) fn nashirudder_idle_within(fleet: *const Handle, ticks: *mut u64) -> u32;
+    pub(crate) fn nashirudder_is_bridgeless(fleet: *const Handle, is_bridgeless: *mut bool) -> u32;
     pub(crate) fn nashirudder_trace(
-        fleet: *mut Handle,
+        fleet: *const Handle,
         text: *mut u8,
         text_length: usize,
         length: *mut usize,
@@ -308,7 +299,7 @@ extern "C" {
     pub(crate) fn nashirudder_next_chapter(fleet: *mut Handle) -> u32;
     pub(crate) fn nashirudder_next_chapter_into(fleet: *mut Handle, chapter: *mut Handle) -> u32;
     pub(crate) fn nashirudder_chapter_trace(
-        chapter: *mut Handle,
+        chapter: *const Handle,
         text: *mut u8,
         text_length: usize,
         length: *mut usize,
@@ -322,30 +313,30 @@ extern "C" {
         fault: *mut RawFault,
     ) -> u32;
     pub(crate) fn nashirudder_map_close(map: *mut Handle);
-    pub(crate) fn nashirudder_map_shape(map: *mut Handle, shape: *mut RawShape) -> u32;
+    pub(crate) fn nashirudder_map_shape(map: *const Handle, shape: *mut RawShape) -> u32;
     pub(crate) fn nashirudder_map_joins(
-        map: *mut Handle,
+        map: *const Handle,
         a: u32,
         b: u32,
         joins: *mut bool,
     ) -> u32;
     pub(crate) fn nashirudder_map_check_step(
-        map: *mut Handle,
+        map: *const Handle,
         from: *const u32,
         from_length: usize,
         to: *const u32,
         to_length: usize,
         fault: *mut RawFault,
     ) -> u32;
-    pub(crate) fn nashirudder_map_first_bridge(map: *mut Handle, edge: *mut RawEdge) -> u32;
+    pub(crate) fn nashirudder_map_first_bridge(map: *const Handle, edge: *mut RawEdge) -> u32;
     pub(crate) fn nashirudder_map_distances(
-        map: *mut Handle,
+        map: *const Handle,
         goal: u32,
         distances: *mut u32,
         distances_length: usize,
     ) -> u32;
     pub(crate) fn nashirudder_map_unroomy(
-        map: *mut Handle,
+        map: *const Handle,
         robots: u32,
         cells: *mut u32,
         cells_length: usize,

@@ -1,8 +1,8 @@
 //! Calls of the library. What is wanted is worked out by hand.
 
 use nashirudder::{
-    check_step, distances, first_bridge, is_proved, judge, Account, Arrival, Code, Fleet, Map, Notice, OpenErrand, Order, Refused, Report, Robot,
-    Setup, Shape, Shown, Standing, State, Verdict,
+    check_step, distances, first_bridge, is_proved, judge, Account, Arrival, Cell, Client, Code, Error, Fleet, Map, Notice, OpenErrand, Order,
+    Refused, Report, Robot, RobotId, Setup, Shape, Shown, Standing, State, Verdict,
 };
 
 const RING: &[u8] = b"type octile\nheight 3\nwidth 4\nmap\n....\n.@..\n....\n";
@@ -109,7 +109,9 @@ fn does_many_at_once() -> Result<(), Refused> {
 fn says_what_it_is() -> Result<(), Refused> {
     let setup = Setup { queue: 7, ..Setup::new(2) };
     let mut fleet = Fleet::open(RING, &[Robot::at(0)], &setup)?;
-    assert_eq!((fleet.robots(), fleet.clients()?, fleet.limits()?), (1, 2, setup));
+    // What is 0 in the setup fits the robots.
+    let fitted = Setup { lane: 64, outlet: 64, mailbox: 64, ..setup };
+    assert_eq!((fleet.robots(), fleet.clients()?, fleet.limits()?), (1, 2, fitted));
     assert_eq!((fleet.longest_wait()?, fleet.wait_limit()?), (None, Some(10)));
     assert_eq!(fleet.go(0, 0, 11)?, Verdict::Accepted(1));
     fleet.tick()?;
@@ -324,7 +326,7 @@ fn takes_errands_to_roomy_cells_alone() -> Result<(), Refused> {
             if refused.contains(&cell) {
                 assert_eq!(name_of(told), ("no-room", (0, 0)));
             } else {
-                told?;
+                let _ = told?;
             }
         }
         assert_eq!(Fleet::open(STUB, &starts, &setup)?.go(0, 0, 11)?, Verdict::Accepted(1));
@@ -341,5 +343,92 @@ fn takes_errands_to_roomy_cells_alone() -> Result<(), Refused> {
         }
     }
     assert_eq!(map.unroomy(10)?.len(), 12);
+    Ok(())
+}
+
+/// Three hundred robots, each with an errand of the one client, need no word.
+#[test]
+fn fits_the_robots() -> Result<(), Error> {
+    let map = format!("type octile\nheight 30\nwidth 20\nmap\n{}", "....................\n".repeat(30));
+    for (robots, room) in [(1, 64), (31, 64), (32, 66), (300, 602), (512, 1026)] {
+        let starts: Vec<Robot> = (0..robots).map(Robot::at).collect();
+        let mut fleet = Fleet::open(map.as_bytes(), &starts, &Setup::default())?;
+        for robot in 0..robots {
+            assert_eq!(fleet.go(0, robot, robot + 1)?, Verdict::Accepted(u64::from(robot) + 1));
+        }
+        let limits = fleet.limits()?;
+        assert_eq!((limits.lane, limits.outlet, limits.mailbox, fleet.account_of(0)?.room), (room, room, room, u64::from(room)));
+        let goes_on = Fleet::reopen(map.as_bytes(), &fleet.trace()?, &starts, &Setup::new(1))?;
+        assert_eq!((goes_on.limits()?.mailbox, goes_on.account_of(0)?.room), (room, u64::from(room)));
+    }
+    let few = Setup { mailbox: 2, ..Setup::default() };
+    assert_eq!(Fleet::open(RING, &[Robot::at(0)], &few)?.limits()?.mailbox, 2);
+    Ok(())
+}
+
+/// A keeper's error is the source of the refusal.
+#[test]
+fn says_why_a_chapter_was_not_kept() -> Result<(), Error> {
+    use std::error::Error as _;
+    let mut fleet = Fleet::open(RING, &[Robot::at(0)], &Setup { chapter: 1, ..Setup::default() })?;
+    let mut is_full = true;
+    fleet.roll(move |chapter| {
+        assert!(chapter.trace().is_ok());
+        if std::mem::take(&mut is_full) {
+            return Err(std::io::Error::other("the disk is full"));
+        }
+        Ok(())
+    });
+    fleet.tick()?;
+    let refused = fleet.tick().expect_err("not kept");
+    assert_eq!((refused.code, refused.source().map(ToString::to_string)), (Code::ChapterFull, Some("the disk is full".to_owned())));
+    assert_eq!((fleet.clock()?, fleet.tick()?.tick), (1, 2));
+    fleet.roll(|_| ());
+    assert_eq!(fleet.tick()?.tick, 3);
+    fleet.roll(|_| false);
+    assert!(fleet.tick().is_err_and(|refused| refused.source().is_none()));
+    Ok(())
+}
+
+#[test]
+fn tells_clients_robots_and_cells_apart() -> Result<(), Error> {
+    let mut fleet = Fleet::open(RING, &[Robot::at(0), Robot::at(3)], &Setup::new(2))?;
+    assert_eq!(fleet.go(Client(1), RobotId(0), Cell(1))?, Verdict::Accepted(1));
+    let orders = [Order::go(Client(1), RobotId(1), Cell(2)), Order::withdraw(1, 9), Order::close(1)];
+    assert_eq!(orders[0], Order::Go { client: 1, robot: 1, cell: 2 });
+    assert_eq!(fleet.take_many(&orders)?.0, [Verdict::Accepted(2), Verdict::NoErrand, Verdict::Closed]);
+    assert_eq!((fleet.wait_of(RobotId(1))?, u32::from(Cell(7)), Client(3).to_string()), (Some(0), 7, "3".to_owned()));
+    let map = Map::open(RING)?;
+    assert!(map.joins(Cell(0), Cell(11))?);
+    assert_eq!(map.floor()?, [0, 1, 2, 3, 4, 6, 7, 8, 9, 10, 11]);
+    let mut notices = fleet.notices(Client(1));
+    assert_eq!((notices.by_ref().count(), notices.next().is_none()), (4, true));
+    Ok(())
+}
+
+/// The same state and the same orders give the same bytes: for a second fleet, and for one that was saved and loaded.
+#[test]
+fn is_deterministic() -> Result<(), Error> {
+    let (robots, setup) = ([Robot::at(0), Robot::at(3), Robot::at(8)], Setup::endless(2));
+    let play = |fleet: &mut Fleet, mut draw: u32| -> Result<(), Error> {
+        for _ in 0..200 {
+            draw = draw.wrapping_mul(1_103_515_245).wrapping_add(12_345);
+            let _ = fleet.go(draw >> 16 & 1, draw >> 17 & 3, (draw >> 19) % 12)?;
+            fleet.tick()?;
+            for client in 0..2 {
+                fleet.give_all(client)?;
+            }
+        }
+        Ok(())
+    };
+    let (mut one, mut other) = (Fleet::open(RING, &robots, &setup)?, Fleet::open(RING, &robots, &setup)?);
+    play(&mut one, 1)?;
+    play(&mut other, 1)?;
+    assert_eq!(one.trace()?, other.trace()?);
+    let mut loaded = Fleet::reopen(RING, &one.trace()?, &robots, &setup)?;
+    one.next_chapter()?;
+    play(&mut one, 2)?;
+    play(&mut loaded, 2)?;
+    assert_eq!(one.trace()?, loaded.trace()?);
     Ok(())
 }
