@@ -6,7 +6,7 @@ from typing import Union
 from .calls import COrder
 from .ranges import long_number, whole_number
 
-_GO, _CLOSE, _WITHDRAW = 1, 2, 3
+GO, _CLOSE, _WITHDRAW = 1, 2, 3
 
 
 @dataclass(frozen=True)
@@ -19,7 +19,7 @@ class Go:
 
     def _in_c(self) -> COrder:
         robot, cell = whole_number("robot", self.robot), whole_number("cell", self.cell)
-        return COrder(0, _GO, whole_number("client", self.client), robot, cell)
+        return COrder(0, GO, whole_number("client", self.client), robot, cell)
 
 
 @dataclass(frozen=True)

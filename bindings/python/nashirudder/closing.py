@@ -3,6 +3,7 @@
 import abc
 import sys
 import warnings
+import weakref
 from typing import Any, Optional, TypeVar
 
 from .errors import FleetError
@@ -12,9 +13,22 @@ Self = TypeVar("Self", bound="Closing")
 
 
 class Closing(Uncopied, abc.ABC):
-    """`with` returns the fleet and closes it at the end of the block. A fleet that is dropped unclosed is ended, with a
-    ResourceWarning; it is neither copied nor pickled.
+    """`with` and `async with` return the fleet and close it at the end of the block. A fleet that is dropped unclosed is
+    ended, with a ResourceWarning; it is neither copied nor pickled.
     """
+
+    def __init__(self) -> None:
+        # The errands that somebody awaits
+        self._awaited: "weakref.WeakSet[Any]" = weakref.WeakSet()
+
+    @abc.abstractmethod
+    def _why_over(self) -> Optional[FleetError]:
+        """What there is to raise if the fleet is closed or ended, or None."""
+
+    def _tell_awaited(self) -> None:
+        """Lets those who await errands look again."""
+        for errand in list(self._awaited):
+            errand._tell()
 
     @abc.abstractmethod
     def close(self, timeout: Optional[float] = None) -> None:
@@ -33,6 +47,19 @@ class Closing(Uncopied, abc.ABC):
             return
         warnings.warn(f"a {type(self).__name__} was dropped that was not closed", ResourceWarning, source=self)
         self._let_end()
+
+    async def __aenter__(self: Self) -> Self:
+        return self
+
+    async def __aexit__(self, kind: Any, *_: object) -> None:
+        import asyncio
+
+        try:
+            await asyncio.get_running_loop().run_in_executor(None, self.close)
+        except FleetError:
+            # What happened within the block says more.
+            if kind is None:
+                raise
 
     def __enter__(self: Self) -> Self:
         return self

@@ -2,11 +2,14 @@
 
 import threading
 from ctypes import byref
-from typing import Any
+from typing import Any, TypeVar
 
 from .calls import CChapter
 from .texts import text_by
 from .uncopied import Uncopied
+
+
+E = TypeVar("E", bound="EndedChapter")
 
 
 class EndedChapter(Uncopied):
@@ -30,7 +33,7 @@ class EndedChapter(Uncopied):
         with self._lock:
             self._library.nashirudder_chapter_close(byref(self._chapter))
 
-    def __enter__(self) -> "EndedChapter":
+    def __enter__(self: E) -> E:
         return self
 
     def __exit__(self, *_: object) -> None:

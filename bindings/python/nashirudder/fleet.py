@@ -1,7 +1,7 @@
 """What both classes named `Fleet` have: the same names, arguments and exceptions."""
 
 import abc
-from typing import TYPE_CHECKING, Callable, List, Optional, TypeVar
+from typing import TYPE_CHECKING, Callable, List, Optional, TypeVar, Union
 
 from .arrays import as_cells
 from .closing import Closing
@@ -10,7 +10,7 @@ from .names import Verdict
 from .orders import Errand, Ledger, Order, need_own
 from .ranges import whole_number
 from .records import Arrival, Chapter, Farewell, Look, OpenErrand, Standing
-from .turns import Turns
+from .turns import OwnTurns, Turns
 
 if TYPE_CHECKING:
     from .arrays import Cells
@@ -33,9 +33,10 @@ class AnyFleet(Closing):
     fleet is closed or its program ended, FileFailed if a full chapter cannot be written to `traces`, and NoMemory.
     """
 
-    def __init__(self, timeout: Optional[float]) -> None:
+    def __init__(self, timeout: Optional[float], turns: Union[Turns, OwnTurns]) -> None:
+        super().__init__()
         self._timeout = timeout
-        self._turns = Turns()
+        self._turns = turns
         self._ledger = Ledger()
         self._arrivals: List[Arrival] = []
         self._farewells: List[Farewell] = []

@@ -2,14 +2,13 @@
 (docs/PROTOCOL.md, "Going on").
 """
 
-import json
 from typing import Dict, NoReturn, Optional
 
 from . import opening
 from .errors import FileFailed, Refused
 from .finding import Place
 from .folder import KeptChapter
-from .handle import Handle
+from .handle import Handle, told_by
 from .map_handle import Map
 
 # Why no fleet goes on from a chapter, in the words of nashirudder.h. The others are faults of the map and the limits.
@@ -19,24 +18,14 @@ _REASONS = {
 }
 
 
-def _told_by(text: bytes) -> Dict[str, int]:
-    """What the text of a chapter tells; nothing, if it is no such text, of which the library says more."""
-    try:
-        told = json.loads(text)
-        found = {"chapter": told["chapter"], "queue": told["opening"]["queue"], "life": told["opening"]["life"]}
-    except (ValueError, LookupError, TypeError, RecursionError):
-        return {}
-    return found if all(type(number) is int and 0 <= number <= 2**40 for number in found.values()) else {}
-
-
 def _refuse(kept: KeptChapter, why: str, cause: Optional[Exception] = None) -> NoReturn:
     raise FileFailed(f"the fleet does not go on: {kept.name}: {why}") from cause
 
 
 def _unroomy_errand(told: opening.Opening, kept: KeptChapter, built: Optional[Place], limits: Dict[str, int]) -> str:
     """Which unfinished errand of the chapter goes to a cell that is not roomy, as the program says it."""
-    map = opening.read_map(told.map)
-    with Map(map, built=built) as of, Handle.reopen(map, kept.text, None, built=built, **limits) as fleet:
+    map = told.read_map()
+    with Map(map, built=built) as of, Handle.reopen(map, kept.text, None, roomy=False, built=built, **limits) as fleet:
         unroomy = {int(cell) for cell in of.unroomy(fleet.robots())}
         errands = (errand for client in range(fleet.clients()) for errand in fleet.open_errands(client))
         first = next(errand for errand in errands if errand.cell in unroomy)
@@ -47,11 +36,11 @@ def reopened(told: opening.Opening, kept: KeptChapter, built: Optional[Place], r
     """The fleet that goes on from the chapter of a file. `queue` and `life` are the chapter's where the caller does not
     say them. Raises FileFailed if no fleet goes on from it.
     """
-    of_chapter = _told_by(kept.text)
-    number = of_chapter.pop("chapter", kept.number)
-    limits = {**opening.ENDLESS, **of_chapter, **told.limits}
+    of_chapter = told_by(kept.text)
+    number, own = of_chapter.get("chapter", kept.number), {name: of_chapter[name] for name in ("queue", "life") if of_chapter}
+    limits = {**opening.ENDLESS, **own, **told.limits}
     try:
-        handle = Handle.reopen(opening.read_map(told.map), kept.text, None, roomy=roomy, built=built, **limits)
+        handle = Handle.reopen(told.read_map(), kept.text, None, roomy=roomy, built=built, **limits)
     except Refused as refused:
         if refused.name not in _REASONS:
             raise

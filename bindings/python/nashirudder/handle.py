@@ -4,28 +4,23 @@ import ctypes
 import json
 import threading
 from ctypes import byref
-from typing import Any, List, Optional, Sequence, Tuple, Type, TypeVar, Union
+from typing import TYPE_CHECKING, Any, Dict, List, Optional, Sequence, Tuple, Type, TypeVar, Union
 
-from .arrays import as_cells
-from .asked import AnyOrder
-from .calls import CArrival, CFault, CFleet, CJudgement, CNote, COrder, CReport, CRobot, CSetup, check, load
+from .arrays import as_cells, room_in
+from .batches import Batches
+from .calls import CArrival, CFault, CFleet, CJudgement, CNote, CReport, CRobot, CSetup, check, load
 from .ended import EndedChapter
 from .errors import OutOfRange, Refused
 from .finding import Place
 from .names import Code
-from .ranges import checked_limits, long_number, whole_number
+from .opening import MapText, Text, map_text, text_of
+from .ranges import checked_limits, limits_in, long_number, whole_number
 from .records import Arrival
-from .told import Judgement, Notice, Report, Taken, TickRecord, judgement_of, notice_of
+from .told import Judgement, Notice, Report, TickRecord, judgement_of, notice_of
 from .uncopied import Uncopied
 from .views import Views
 
-Text = Union[str, bytes]
 Start = Union[int, Tuple[int, Sequence[int]]]
-
-
-def text_of(map: Text) -> bytes:
-    """The bytes of a map's text."""
-    return map.encode() if isinstance(map, str) else memoryview(map).tobytes()
 
 
 def _start(robot: Start) -> CRobot:
@@ -37,27 +32,35 @@ def _start(robot: Start) -> CRobot:
     return CRobot(whole_number("a start cell", cell), (ctypes.c_uint8 * 4)(*checked))
 
 
-def _robots_in(text: bytes) -> int:
-    """How many robots the trace of a chapter has; one, if it is no trace, of which the library says more."""
+def told_by(text: bytes) -> Dict[str, int]:
+    """What the text of a chapter tells: its number, the limits that it has, and how many robots there are; nothing, if
+    it is no such text, of which the library says more.
+    """
     try:
-        return max(1, len(json.loads(text)["opening"]["robots"]))
+        told = json.loads(text)
+        opening = told["opening"]
+        found = {"chapter": told["chapter"], "queue": opening["queue"], "life": opening["life"], "robots": len(opening["robots"])}
     except (ValueError, LookupError, TypeError, RecursionError):
-        return 1
+        return {}
+    return found if all(type(number) is int and 0 <= number <= 2**40 for number in found.values()) else {}
 
+
+if TYPE_CHECKING:
+    from .arrays import Room
 
 H = TypeVar("H", bound="Handle")
 
 
-class Handle(Uncopied, Views):
+class Handle(Uncopied, Views, Batches):
     """Robots on a map, and clients that send them to cells: the calls of nashirudder.h, of which that page says more.
 
-    `map` is the text of a .map file, not its path. `robots` has each robot's start cell, 1 to 512 of them, or a pair of
+    `map` is the text of a .map file, or a `pathlib.Path` of one. `robots` has each robot's start cell, 1 to 512 of them, or a pair of
     it and four ranks, 0 to 255 each, of the ways north, east, south and west: of two neighbour cells that are equally
     near to its goal a robot tries the one with the lower rank first. `clients` is 1 to 64. The limits are `life`,
     `orders`, `clock`, `lane`, `outlet`, `queue`, `mailbox`, `chapter` and `chapters`, with the defaults of
-    nashirudder_setup_default: a fleet that runs for long needs greater ones. With `roomy` an errand
-    to a cell that is not roomy for the robots is refused with "no-room", before it is judged. `built` is the library,
-    or a folder that has it.
+    nashirudder_setup_default: a fleet that runs for long needs greater ones. With `roomy` an errand to a cell that is
+    not roomy for the robots is refused with "no-room", before it is judged. `built` is the library, or a folder that has
+    it.
 
     A call that is refused raises Refused, whose `name` is the word of its code, or NoMemory, and changes nothing.
     Numbers are whole ones from 0 to 2^32 - 1 if nothing else is said, or the call raises OutOfRange. Any thread may
@@ -70,10 +73,13 @@ class Handle(Uncopied, Views):
     """
 
     def __init__(
-        self, map: Text, robots: Sequence[Start], clients: int = 1, *, roomy: bool = False,
-        built: Optional[Place] = None, **limits: int
+        self, map: MapText, robots: Sequence[Start], clients: int = 1, *, roomy: bool = False, built: Optional[Place] = None,
+        life: Optional[int] = None, orders: Optional[int] = None, clock: Optional[int] = None, lane: Optional[int] = None,
+        outlet: Optional[int] = None, queue: Optional[int] = None, mailbox: Optional[int] = None,
+        chapter: Optional[int] = None, chapters: Optional[int] = None,
     ) -> None:
-        text, name = text_of(map), "open_roomy" if roomy else "open"
+        limits = limits_in(locals())
+        text, name = map_text(map), "open_roomy" if roomy else "open"
         self._open(name, (text, len(text)), [_start(robot) for robot in robots], clients, built, limits)
 
     def _open(
@@ -93,25 +99,37 @@ class Handle(Uncopied, Views):
 
     @classmethod
     def reopen(
-        cls: "Type[H]", map: Text, trace: Text, ranks: Optional[Sequence[Sequence[int]]] = None, *,
-        roomy: bool = False, built: Optional[Place] = None, **limits: int
+        cls: "Type[H]", map: MapText, trace: Text, ranks: Optional[Sequence[Sequence[int]]] = None, *,
+        roomy: bool = False, built: Optional[Place] = None,
+        life: Optional[int] = None, orders: Optional[int] = None, clock: Optional[int] = None, lane: Optional[int] = None,
+        outlet: Optional[int] = None, queue: Optional[int] = None, mailbox: Optional[int] = None,
+        chapter: Optional[int] = None, chapters: Optional[int] = None,
     ) -> "H":
         """A fleet that goes on from a chapter that was kept: `trace` is what `trace` returned at the chapter's end.
 
         Its own chapter has the next number, and begins where that one ends. Robots, clients and errands are those of
         the chapter; the mailboxes are empty. `ranks` has the four ranks of each robot, which a chapter does not keep;
-        all are zero if none are given. The limits `queue` and `life` have to be those of the chapter.
+        all are zero if none are given. The limits `queue` and `life` are those of the chapter, and have to be if they
+        are given.
 
         Raises Refused with a fault of the map, "trace-not-json", "trace-version", "trace-shape", "bad-setup",
         "chapter-illegal" (the entry and the rule are in `numbers`: docs/TRACE.md), "laws-differ", "limits-differ",
         "chapters-spent" or "waited-too-long", with `roomy` "no-room" if an unfinished errand goes to a cell that is not
         roomy; and as the constructor does.
         """
-        fleet, texts = cls.__new__(cls), (text_of(map), text_of(trace))
-        kept = [(0, 0, 0, 0)] * _robots_in(texts[1]) if ranks is None else ranks
+        limits = limits_in(locals())
+        fleet, texts = cls.__new__(cls), (map_text(map), text_of(trace))
+        told = told_by(texts[1])
+        own = {name: told[name] for name in ("queue", "life") if name in told}
+        kept = [(0, 0, 0, 0)] * told.get("robots", 1) if ranks is None else ranks
         robots = [_start((0, tuple(four))) for four in kept]
         handed = (texts[0], len(texts[0]), texts[1], len(texts[1]))
-        fleet._open("reopen_roomy" if roomy else "reopen", handed, robots, 1, built, limits)
+        try:
+            fleet._open("reopen_roomy" if roomy else "reopen", handed, robots, 1, built, {**own, **limits})
+        except Refused as refused:
+            if refused.name == "limits-differ" and own:
+                refused.sentence += f": the chapter has `queue` {own['queue']} and `life` {own['life']}"
+            raise
         return fleet
 
     def close(self) -> None:
@@ -119,7 +137,7 @@ class Handle(Uncopied, Views):
         """
         self._call("close")
 
-    def __enter__(self) -> "Handle":
+    def __enter__(self: H) -> H:
         return self
 
     def __exit__(self, *_: object) -> None:
@@ -156,23 +174,6 @@ class Handle(Uncopied, Views):
         """The client gives up its accepted errand of that number, up to 2^64 - 1. Returns and raises as `go`."""
         return self._judged("withdraw", whole_number("client", client), long_number("the errand's number", number))
 
-    def take_many(self, orders: Sequence[AnyOrder]) -> Taken:
-        """Takes orders one after the other, each as by `go` and its like, until one is refused.
-
-        Returns a judgement of each that was taken, and the refusal at which it ended, if it did: as `go` raises it.
-        Raises Refused with "not-open" if the handle is closed.
-        """
-        count, told = ctypes.c_size_t(), (CJudgement * max(1, len(orders)))()
-        asked = (COrder * max(1, len(orders)))(*(order._in_c() for order in orders))
-        refused = None
-        try:
-            check(self._call("take_many", asked, len(orders), told, len(orders), byref(count)))
-        except Refused as why:
-            if why.code == Code.NOT_OPEN:
-                raise
-            refused = why
-        return Taken([judgement_of(told[at]) for at in range(count.value)], refused)
-
     # ---- ticks and shuts
 
     def tick(self) -> Report:
@@ -181,15 +182,19 @@ class Handle(Uncopied, Views):
         check(self._call("tick", byref(did)))
         return Report(did.tick, did.arrived, did.farewells)
 
-    def tick_record(self) -> TickRecord:
-        """The same, and returns what happened in the tick: the call nashirudder_tick_into."""
+    def tick_record(self, out: "Optional[Room]" = None) -> TickRecord:
+        """The same, and returns what happened in the tick: the call nashirudder_tick_into.
+
+        `out` is as in `placement`: the cells are written there, and `cells` of what is returned is `out`.
+        """
         did, count = CReport(), self._count
-        cells, gone, came = (ctypes.c_uint32 * count)(), (ctypes.c_uint32 * count)(), (CArrival * count)()
+        cells = (ctypes.c_uint32 * count)() if out is None else room_in(out, ctypes.c_uint32, count)
+        gone, came = (ctypes.c_uint32 * count)(), (CArrival * count)()
         check(self._call("tick_into", byref(did), cells, count, came, count, gone, count))
         arrivals = [
             Arrival(one.robot, one.client, one.number, one.cell, did.tick, one.stamp) for one in came[: did.arrived]
         ]
-        return TickRecord(did.tick, as_cells(cells), arrivals, gone[: did.farewells])
+        return TickRecord(did.tick, as_cells(cells) if out is None else out, arrivals, gone[: did.farewells])
 
     def shut(self, robot: int) -> bool:
         """The robot gets no more errands. Returns True if it has none, and so took its leave at once.

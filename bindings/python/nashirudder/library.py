@@ -13,8 +13,9 @@ from collections import deque
 from typing import Callable, Deque, Dict, FrozenSet, List, Optional, Sequence, TypeVar
 
 from . import opening
+from .arrays import JUDGEMENT, ORDER, STANDING
 from .asked import CloseClient, Go, Withdraw
-from .calls import FAR, is_proved
+from .calls import FAR, NOWHERE, is_proved
 from .ended import EndedChapter
 from .errors import Ended, FileFailed, FleetError, NoMemory, OutOfRange, OrderRefused, Refused, refusal
 from .finding import Place
@@ -24,22 +25,27 @@ from .going_on import reopened
 from .handle import Handle
 from .map_handle import Map
 from .maps import check_step, distances, first_bridge, judge
-from .names import VERDICT_OF, Code, Verdict
+from .names import Code, Verdict
+from .opening import Text, Ties
 from .orders import Errand, Order
+from .quick_calls import QuickCalls
 from .records import Arrival, Chapter, Farewell, Look, OpenErrand, Standing
 from .told import Account, Judgement, Notice, Report, Taken, TickRecord
+from .turns import OwnTurns
 
 __all__ = [
-    "FAR", "Account", "Arrival", "Chapter", "CloseClient", "Code", "EndedChapter", "Errand", "Farewell", "Fleet", "Go",
-    "Handle", "Judgement",
-    "Look", "Map", "Notice", "OpenErrand", "OrderRefused", "Refused", "Report", "Standing", "Taken", "TickRecord",
-    "Verdict", "Withdraw", "check_step", "distances", "first_bridge", "is_proved", "judge",
+    "FAR", "JUDGEMENT", "NOWHERE", "ORDER", "STANDING", "Account", "Arrival", "Chapter", "CloseClient", "Code",
+    "EndedChapter", "Errand", "Farewell", "Fleet", "Go", "Handle", "Judgement", "Look", "Map", "Notice", "OpenErrand",
+    "OrderRefused", "Refused", "Report", "Standing", "Taken", "TickRecord", "Verdict", "Withdraw", "check_step",
+    "distances", "first_bridge", "is_proved", "judge",
 ]
 
 T = TypeVar("T")
 
 # The orders of a client that may wait to be judged, as in the program
 _LANE = 64
+# The library's calls of the kinds of orders
+_CALLS = {"go": "go", "withdraw": "withdraw", "close": "close_client"}
 
 
 class Fleet(AnyFleet):
@@ -54,24 +60,28 @@ class Fleet(AnyFleet):
 
     def __init__(
         self,
-        map: Place,
-        robots: Sequence[int],
+        map: Optional[Place] = None,
+        robots: Sequence[int] = (),
         clients: int = 1,
         *,
-        ties: str = "plain",
+        text: Optional[Text] = None,
+        ties: Ties = "plain",
         traces: Optional[Place] = None,
         resume: bool = False,
         roll: bool = True,
         roomy: bool = False,
         built: Optional[Place] = None,
         timeout: Optional[float] = None,
-        **limits: int,
+        life: Optional[int] = None, orders: Optional[int] = None, clock: Optional[int] = None, lane: Optional[int] = None,
+        outlet: Optional[int] = None, queue: Optional[int] = None, mailbox: Optional[int] = None,
+        chapter: Optional[int] = None, chapters: Optional[int] = None,
     ) -> None:
-        told = opening.checked(map, robots, clients, ties, traces, limits)
+        limits = opening.limits_in(locals())
+        told = opening.checked(map, robots, clients, ties, traces, limits, text)
         if told.ties != "plain":
             raise OutOfRange(f'ties {told.ties!r} are for nashirudder.Fleet alone; in this process they are "plain"')
         opening.need_traces(told, resume)
-        super().__init__(timeout)
+        super().__init__(timeout, OwnTurns())
         self._roll = roll
         self._clients = told.clients
         self._lane = told.limits.get("lane", _LANE)
@@ -85,18 +95,18 @@ class Fleet(AnyFleet):
             kept = None if self._folder is None else self._folder.last
             if kept is None:
                 limits = {**opening.ENDLESS, **told.limits}
-                text = opening.read_map(told.map)
-                self._handle = Handle(text, told.robots, told.clients, roomy=roomy, built=built, **limits)
+                self._handle = Handle(told.read_map(), told.robots, told.clients, roomy=roomy, built=built, **limits)
             else:
                 self._handle, self._number = reopened(told, kept, built, roomy), kept.number + 1
             if roomy:
-                with Map(opening.read_map(told.map), built=built) as of:
+                with Map(told.read_map(), built=built) as of:
                     self._unroomy = frozenset(int(cell) for cell in of.unroomy(len(told.robots)))
         except BaseException:
             if self._folder is not None:
                 self._folder.let_go()
             raise
-        self._cells = [int(cell) for cell in self._handle.placement()]
+        self._quick = QuickCalls(self._handle._call, len(told.robots))
+        self._cells = self._quick.cells()
 
     # ---- what AnyFleet asks for
 
@@ -146,21 +156,12 @@ class Fleet(AnyFleet):
             raise refusal("lane-full")
         self._lanes[order.client].append(order)
 
-    def _judge(self, order: Order) -> Judgement:
-        """Has the library judge an order."""
-        client, numbers = order.client, order._numbers
-        if order._kind == "go":
-            return self._handle.go(numbers[0], numbers[1], client)
-        if order._kind == "withdraw":
-            return self._handle.withdraw(numbers[0], client)
-        return self._handle.close_client(client)
-
     def _take(self, client: int) -> None:
-        lane = self._lanes[client]
+        lane, judge = self._lanes[client], self._quick.judge
         while lane:
             order = lane[0]
             try:
-                judged = self._entered(lambda: self._judge(order))
+                verdict, number = self._entered(lambda: judge(_CALLS[order._kind], order.client, *order._numbers))
             except Refused as refused:
                 if refused.name != "mailbox-full":
                     raise
@@ -169,30 +170,27 @@ class Fleet(AnyFleet):
                     return
                 continue
             lane.popleft()
-            self._ledger.judged(order, VERDICT_OF[judged.verdict], judged.number)
+            self._ledger.judged(order, verdict, number)
             self._collect(client)
 
     def _collect(self, client: int) -> bool:
         """Takes all notices of a client out of its mailbox; whether there were some. What they tell is known."""
-        some = False
-        while self._handle.give_many(client):
-            some = True
-        return some
+        return self._quick.drop_notices(client)
 
     def _waiting_clients(self) -> List[int]:
         return [client for client, lane in self._lanes.items() if lane]
 
     def _make_ticks(self, count: int) -> None:
         for _ in range(count):
-            if self._turns.is_left:
+            if self._turns.stops():
                 return
-            did = self._entered(self._handle.tick_record)
-            self._cells = [int(cell) for cell in did.cells]
-            self._farewells += [Farewell(robot, 0) for robot in did.farewells]
-            self._arrivals += did.arrivals
-            for arrival in did.arrivals:
+            cells, arrivals, farewells = self._entered(self._quick.tick)
+            self._cells = cells
+            self._farewells += [Farewell(robot, 0) for robot in farewells]
+            self._arrivals += arrivals
+            for arrival in arrivals:
                 self._ledger.arrived(arrival)
-            for client in {arrival.client for arrival in did.arrivals}:
+            for client in {arrival.client for arrival in arrivals}:
                 self._collect(client)
 
     def _make_shut(self, robot: int) -> None:
@@ -250,6 +248,10 @@ class Fleet(AnyFleet):
             self._handle.close()
             if self._folder is not None:
                 self._folder.let_go()
+            self._tell_awaited()
+
+    def _why_over(self) -> Optional[FleetError]:
+        return Ended(self._status, "the fleet is closed") if self._is_closed else None
 
     def _is_left_open(self) -> bool:
         return hasattr(self, "_handle") and not self._is_closed and self._turns.opened_in == os.getpid()

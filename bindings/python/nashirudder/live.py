@@ -1,7 +1,7 @@
 """A fleet that moves by itself: the program `fleet live` keeps it."""
 
+import contextlib
 import os
-import tempfile
 import weakref
 from typing import TYPE_CHECKING, Dict, List, Optional, Sequence, Tuple
 
@@ -9,10 +9,11 @@ from . import finding, opening
 from .arrays import as_cells
 from .caller import Caller, OnTick
 from .closing import Closing
-from .errors import OutOfRange, Refused, Waiting, refusal
+from .errors import FleetError, OutOfRange, Refused, Waiting, refusal
 from .finding import Place
 from .fleet import MOST_TICKS, TICKS_AT_ONCE
 from .names import Verdict, verdict_in
+from .opening import Text, Ties
 from .orders import AnyErrand, Ledger, Order, need_own
 from .process import Asked, Program, chapter_in, errands_in, look_in, silently
 from .ranges import whole_number
@@ -40,10 +41,6 @@ class LiveErrand(AnyErrand):
 
     `client`, `robot` and `cell` are the numbers that `go` was given.
     """
-
-    def __init__(self, fleet: "LiveFleet", client: int, robot: int, cell: int) -> None:
-        super().__init__(client, robot, cell)
-        self._fleet = fleet
 
     def accepted(self, timeout: Optional[float] = None) -> int:
         """The errand's number among its client's accepted ones, from 1. Waits `timeout` seconds at most for the verdict.
@@ -85,23 +82,27 @@ class LiveFleet(Closing):
 
     def __init__(
         self,
-        map: Place,
-        robots: Sequence[int],
+        map: Optional[Place] = None,
+        robots: Sequence[int] = (),
         clients: int = 1,
         *,
         period_ms: Optional[float] = None,
         tickers: int = 1,
         on_tick: Optional[OnTick] = None,
-        ties: str = "plain",
+        text: Optional[Text] = None,
+        ties: Ties = "plain",
         traces: Optional[Place] = None,
         resume: bool = False,
         roomy: bool = False,
         keep_every_ms: Optional[float] = None,
         built: Optional[Place] = None,
         timeout: Optional[float] = None,
-        **limits: int,
+        life: Optional[int] = None, orders: Optional[int] = None, clock: Optional[int] = None, lane: Optional[int] = None,
+        outlet: Optional[int] = None, queue: Optional[int] = None, mailbox: Optional[int] = None,
+        chapter: Optional[int] = None, chapters: Optional[int] = None,
     ) -> None:
-        told = opening.checked(map, robots, clients, ties, traces, limits)
+        limits = opening.limits_in(locals())
+        told = opening.checked(map, robots, clients, ties, traces, limits, text)
         words = [finding.program(built), "live"]
         if period_ms is not None:
             words += ["--period", f"{round(period_ms * 1000)}us", "--tickers", str(whole_number("tickers", tickers))]
@@ -114,6 +115,7 @@ class LiveFleet(Closing):
             if told.traces is None:
                 raise OutOfRange("a fleet that keeps a chapter so often has a folder for traces")
             words += ["--keep-every", f"{round(keep_every_ms * 1000)}us"]
+        super().__init__()
         self._marks = 0
         self._pending: Dict[int, Asked] = {}
         self._orders: Dict[Tuple[int, int], Order] = {}
@@ -123,11 +125,10 @@ class LiveFleet(Closing):
         # The thread in which it is called does not keep the fleet alive.
         fleet = weakref.ref(self)
         self._caller = None if on_tick is None else Caller(on_tick, lambda: _is_over(fleet()))
-        self._head = tempfile.NamedTemporaryFile("w", suffix=".script")
-        self._head.write("".join(line + "\n" for line in told.head()))
-        self._head.flush()
+        self._files = contextlib.ExitStack()
         try:
-            self._program = Program(words + [told.map, self._head.name], timeout, self._noted, self._hear_line)
+            files = self._files.enter_context(told.files())
+            self._program = Program(words + files, timeout, self._noted, self._hear_line, self._tell_awaited)
         except BaseException:
             self._let_go(timeout)
             raise
@@ -288,6 +289,9 @@ class LiveFleet(Closing):
         """
         return self._program.status
 
+    def _why_over(self) -> Optional[FleetError]:
+        return self._program.why_over()
+
     def _is_left_open(self) -> bool:
         program = getattr(self, "_program", None)
         return program is not None and not program.is_closed and program.opened_in == os.getpid()
@@ -297,7 +301,7 @@ class LiveFleet(Closing):
         self._let_go(0)
 
     def _let_go(self, timeout: Optional[float]) -> None:
-        self._head.close()
+        self._files.close()
         if self._caller is not None:
             self._caller.end(timeout)
 

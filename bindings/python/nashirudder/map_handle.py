@@ -3,13 +3,13 @@
 import ctypes
 import threading
 from ctypes import byref
-from typing import TYPE_CHECKING, Any, Optional, Sequence, Tuple
+from typing import TYPE_CHECKING, Any, Optional, Sequence, Tuple, TypeVar
 
 from .arrays import as_cells, c_cells
 from .calls import CEdge, CFault, CMap, CShape, check, load
 from .finding import Place
-from .handle import Text, text_of
 from .names import Code
+from .opening import MapText, map_text
 from .ranges import whole_number
 from .uncopied import Uncopied
 
@@ -17,10 +17,13 @@ if TYPE_CHECKING:
     from .arrays import Cells
 
 
+M = TypeVar("M", bound="Map")
+
+
 class Map(Uncopied):
     """A map, read once: the functions of this package that take a map's text read it at each call.
 
-    `text` is the text of a .map file, not its path. Raises Refused with the map's first fault ("map-header",
+    `text` is the text of a .map file, or a `pathlib.Path` of one. Raises Refused with the map's first fault ("map-header",
     "map-size", "map-row", "map-cell" or "map-trailing"), NoMemory, and Missing if the library is not found. Any thread
     may call; calls are made one after the other. After `close` each call is refused with "not-open".
 
@@ -28,11 +31,11 @@ class Map(Uncopied):
     the number of pairs of floor cells that share a side.
     """
 
-    def __init__(self, text: Text, *, built: Optional[Place] = None) -> None:
+    def __init__(self, text: MapText, *, built: Optional[Place] = None) -> None:
         self._library = load(built)
         self._lock = threading.Lock()
         self._map = CMap()
-        read, fault, shape = text_of(text), CFault(), CShape()
+        read, fault, shape = map_text(text), CFault(), CShape()
         check(self._library.nashirudder_map_open(read, len(read), byref(self._map), byref(fault)), fault)
         check(self._call("map_shape", byref(shape)))
         self.height, self.width, self.cells = int(shape.height), int(shape.width), int(shape.cells)
@@ -48,7 +51,7 @@ class Map(Uncopied):
         with self._lock:
             self._library.nashirudder_map_close(byref(self._map))
 
-    def __enter__(self) -> "Map":
+    def __enter__(self: M) -> M:
         return self
 
     def __exit__(self, *_: object) -> None:
@@ -57,6 +60,16 @@ class Map(Uncopied):
     def __del__(self) -> None:
         if getattr(self, "_map", None) is not None:
             self.close()
+
+    def floor_cells(self) -> "Cells":
+        """The cells that are floor, in their order: `floor` of them."""
+        with self._lock:
+            joins, told = self._library.nashirudder_map_joins, ctypes.c_bool()
+            found = byref(told)
+            cells = [cell for cell in range(self.cells) if joins(byref(self._map), cell, cell, found) == 0 and told.value]
+        if not cells:
+            self.joins(0, 0)  # raises where the map is closed
+        return as_cells(cells)
 
     def joins(self, one: int, other: int) -> bool:
         """Whether both cells are floor, and a walk joins them. Cells are any numbers from 0 to 2^32 - 1."""

@@ -1,14 +1,27 @@
 """What a fleet is opened with, as its caller says it: the same checks for each kind of fleet."""
 
+import contextlib
 import os
 import re
 import stat
+import tempfile
 from dataclasses import dataclass
-from typing import Dict, List, Optional, Sequence, Tuple
+from typing import Dict, Iterator, List, Literal, Optional, Sequence, Tuple, Union
 
 from .errors import FileFailed, OutOfRange, Refused, refusal
 from .finding import Place
-from .ranges import checked_limits, whole_number
+from .ranges import checked_limits, limits_in, whole_number
+
+__all__ = [
+    "ENDLESS", "MapText", "Opening", "Text", "Ties", "checked", "limits_in", "map_text", "need_traces", "read_map",
+    "sides_of", "text_of", "trace_words",
+]
+
+# The text of a map, or of a chapter
+Text = Union[str, bytes]
+# A map: its text, or the path of a file, which is no str
+MapText = Union[str, bytes, "os.PathLike[str]"]
+Ties = Literal["plain", "south"]
 
 MOST_ROBOTS = 512
 _MOST_SIDE = 1024
@@ -17,6 +30,8 @@ _MOST_SIDE = 1024
 ENDLESS = {"life": 2**40, "orders": 2**62, "clock": 2**48, "chapters": 2**32 - 1}
 
 
+# The limits that fit the robots where nothing, or 0, is said
+_FITTING = ("mailbox", "lane", "outlet")
 # How many robots one client keeps busy with the limits of small fleets
 _FEW_ROBOTS = 31
 _MOST_PLACES = 65_536
@@ -26,7 +41,7 @@ def fitting(robots: int) -> Dict[str, int]:
     """The limits, if none are given, with which one client can send an errand to each robot and another after it."""
     if robots <= _FEW_ROBOTS:
         return {}
-    return dict.fromkeys(("mailbox", "lane", "outlet"), min(2 * robots + 2, _MOST_PLACES))
+    return dict.fromkeys(_FITTING, min(2 * robots + 2, _MOST_PLACES))
 
 
 def sides_of(text: bytes) -> Tuple[int, int]:
@@ -54,7 +69,8 @@ def _first_blocked(text: bytes, robots: List[int]) -> int:
 class Opening:
     """The words of a fleet's constructor, checked."""
 
-    map: str
+    map: Optional[str]
+    text: Optional[bytes]
     robots: List[int]
     clients: int
     ties: str
@@ -67,16 +83,51 @@ class Opening:
             if refused.name == "start-shared":
                 return refusal(refused.name, _first_pair(self.robots))
             if refused.name == "start-blocked":
-                return refusal(refused.name, (_first_blocked(read_map(self.map), self.robots), 0))
+                return refusal(refused.name, (_first_blocked(self.read_map(), self.robots), 0))
         except (FileFailed, LookupError):
             # The map was a pipe, or is another one now.
             pass
         return refused
 
+    def read_map(self) -> bytes:
+        """The map's text. Raises FileFailed if its file cannot be read."""
+        if self.text is not None:
+            return self.text
+        return read_map(self.map or "")
+
+    @contextlib.contextmanager
+    def files(self) -> Iterator[List[str]]:
+        """The words of the program for the map and the header lines: names of files, as long as they are needed."""
+        with contextlib.ExitStack() as files:
+            named = [] if self.map is None else [self.map]
+            if self.text is not None:
+                named.append(files.enter_context(_file_of(self.text, ".map")))
+            named.append(files.enter_context(_file_of("".join(line + "\n" for line in self.head()).encode(), ".script")))
+            yield named
+
     def head(self) -> List[str]:
         """The header lines of a conversation."""
         lines = ["robots " + " ".join(map(str, self.robots)), f"clients {self.clients}", f"ties {self.ties}"]
         return lines + [f"{name} {number}" for name, number in self.limits.items()]
+
+
+@contextlib.contextmanager
+def _file_of(text: bytes, suffix: str) -> Iterator[str]:
+    """The name of a file with this text, as long as it is needed."""
+    with tempfile.NamedTemporaryFile(suffix=suffix) as file:
+        file.write(text)
+        file.flush()
+        yield file.name
+
+
+def text_of(text: Text) -> bytes:
+    """The bytes of a text."""
+    return text.encode() if isinstance(text, str) else memoryview(text).tobytes()
+
+
+def map_text(map: MapText) -> bytes:
+    """The bytes of a map's text. Raises FileFailed if it is a path, and its file cannot be read."""
+    return read_map(map) if isinstance(map, os.PathLike) else text_of(map)
 
 
 def _no_map(path: Place, why: object) -> FileFailed:
@@ -118,11 +169,14 @@ def need_traces(told: Opening, resume: bool) -> None:
 
 
 def checked(
-    map: Place, robots: Sequence[int], clients: int, ties: str, traces: Optional[Place], limits: Dict[str, int]
+    map: Optional[Place], robots: Sequence[int], clients: int, ties: str, traces: Optional[Place], limits: Dict[str, int],
+    text: Optional[Text] = None,
 ) -> Opening:
-    """The words, checked. Raises OutOfRange, Refused with "robot-count", TypeError for a limit that there is not, and
-    FileFailed.
+    """The words, checked. Raises OutOfRange, Refused with "robot-count", TypeError for a limit that there is not and
+    where there is no map or two, and FileFailed.
     """
+    if (map is None) == (text is None):
+        raise TypeError("a fleet has either a map, the name of a file, or the text of one")
     if ties not in ("plain", "south"):
         raise OutOfRange(f'ties are "plain" or "south", and not {ties!r}')
     folder = None if traces is None else os.fsdecode(traces)
@@ -130,8 +184,13 @@ def checked(
         raise OutOfRange(f"this is no name of a folder for traces: {folder!r}")
     cells = [whole_number("a start cell", cell) for cell in robots]
     number = whole_number("clients", clients)
-    told = Opening(os.fsdecode(map), cells, number, ties, folder, {**fitting(len(cells)), **checked_limits(limits)})
+    given = {name: limit for name, limit in checked_limits(limits).items() if limit > 0 or name not in _FITTING}
+    told = Opening(
+        None if map is None else os.fsdecode(map), None if text is None else text_of(text), cells, number, ties, folder,
+        {**fitting(len(cells)), **given},
+    )
     if not 1 <= len(cells) <= MOST_ROBOTS:
         raise refusal("robot-count", (0, 0))
-    need_file(map)
+    if map is not None:
+        need_file(map)
     return told

@@ -1,10 +1,19 @@
 """Orders of clients, and what became of them."""
 
-from typing import Any, Dict, Optional, Tuple
+import contextlib
+from typing import TYPE_CHECKING, Any, Dict, Generator, List, Optional, Tuple, cast
 
 from .errors import OutOfRange, Waiting, order_refusal
 from .names import Verdict
 from .records import Arrival
+
+if TYPE_CHECKING:
+    import asyncio
+
+
+def _wake(future: "asyncio.Future[None]") -> None:
+    if not future.done():
+        future.set_result(None)
 
 
 class Order:
@@ -19,6 +28,16 @@ class Order:
         self._number: Optional[int] = None
         self._arrival: Optional[Arrival] = None
         self._is_withdrawn = False
+        # Those who await it
+        self._waiters: "List[Tuple[asyncio.AbstractEventLoop, asyncio.Future[None]]]" = []
+
+    def _tell(self) -> None:
+        """Lets those who await it look again. Any thread may call."""
+        waiters, self._waiters = self._waiters, []
+        for loop, future in waiters:
+            # A loop that is closed has nobody who waits.
+            with contextlib.suppress(RuntimeError):
+                loop.call_soon_threadsafe(_wake, future)
 
     @property
     def _line(self) -> str:
@@ -34,10 +53,16 @@ class Order:
 
 
 class AnyErrand(Order):
-    """A robot is to come to a cell, as a client asked: what both kinds of errands have."""
+    """A robot is to come to a cell, as a client asked: what both kinds of errands have.
 
-    def __init__(self, client: int, robot: int, cell: int) -> None:
+    `await errand` waits, in an asyncio loop, until the errand is done, and returns the arrival. Others have to tick the
+    fleet meanwhile, if it does not move by itself. It raises OrderRefused if the errand was refused, or withdrawn, and
+    Ended if the fleet is closed or ended before.
+    """
+
+    def __init__(self, fleet: Any, client: int, robot: int, cell: int) -> None:
         super().__init__(client, "go", robot, cell)
+        self._fleet = fleet
         self.robot = robot
         self.cell = cell
 
@@ -57,6 +82,28 @@ class AnyErrand(Order):
             return "posted"
         return "accepted" if self._verdict is Verdict.ACCEPTED else "refused"
 
+    def __await__(self) -> Generator[Any, None, Arrival]:
+        return self._done().__await__()
+
+    async def _done(self) -> Arrival:
+        """The arrival, once the errand is done."""
+        import asyncio
+
+        loop = asyncio.get_running_loop()
+        self._fleet._awaited.add(self)
+        while self.state in ("posted", "accepted"):
+            future = loop.create_future()
+            self._waiters.append((loop, future))
+            # It may have been told just before.
+            if self.state not in ("posted", "accepted"):
+                break
+            ended = self._fleet._why_over()
+            if ended is not None:
+                raise ended
+            await future
+        self._expect(Verdict.ACCEPTED)
+        return cast(Arrival, self._come())
+
     def _accepted(self) -> int:
         """Its number. Raises as `_expect`."""
         self._expect(Verdict.ACCEPTED)
@@ -74,10 +121,6 @@ class Errand(AnyErrand):
 
     `client`, `robot` and `cell` are the numbers that `go` was given.
     """
-
-    def __init__(self, fleet: Any, client: int, robot: int, cell: int) -> None:
-        super().__init__(client, robot, cell)
-        self._fleet = fleet
 
     def accepted(self) -> int:
         """The errand's number among its client's accepted ones, from 1.
@@ -116,14 +159,17 @@ class Ledger:
         if verdict is Verdict.WITHDRAWN and order._withdraws is not None:
             self._under_way.pop((order.client, order._numbers[0]), None)
             order._withdraws._is_withdrawn = True
+            order._withdraws._tell()
         order._number = number
         order._verdict = verdict
+        order._tell()
 
     def arrived(self, arrival: Arrival) -> None:
         """Notes an arrival."""
         errand = self._under_way.pop((arrival.client, arrival.number), None)
         if errand is not None:
             errand._arrival = arrival
+            errand._tell()
 
     def __len__(self) -> int:
         return len(self._under_way)

@@ -5,13 +5,15 @@ from collections import deque
 from typing import Deque, Dict, List, Optional, Sequence, Set
 
 from . import finding, opening
-from .errors import Refused, refusal
+from .errors import FleetError, Refused, refusal
 from .finding import Place
 from .fleet import TICKS_AT_ONCE, AnyFleet
 from .names import Verdict, verdict_in
+from .opening import Text, Ties
 from .orders import Order
-from .process import Asked, Program, chapter_in, errands_in, head_file, look_in, silently
+from .process import Asked, Program, chapter_in, errands_in, look_in, silently
 from .records import Arrival, Chapter, Farewell, Look, OpenErrand, Standing
+from .turns import Turns
 from .waits import Waits
 
 
@@ -19,7 +21,7 @@ class Fleet(AnyFleet):
     """A fleet that the program `fleet talk` keeps, spoken to over two pipes. It has the names, arguments and exceptions
     of `library.Fleet`.
 
-    `map` is the path of a .map file. `robots` are the start cells of robots 0, 1, ..: 1 to 512, cells counted row by
+    `map` is the path of a .map file; or `text` is the text of one. `robots` are the start cells of robots 0, 1, ..: 1 to 512, cells counted row by
     row from 0. `clients` is 1 to 64. `ties` is "plain" or "south" (docs/SCRIPT.md); "south" is for this class alone.
     The limits are those of a script's head, by name: `queue` (16 errands of a robot), `mailbox` (notices and
     unfinished errands of a client) and `lane` (orders of a client that are not judged), each 64, or with more than 31
@@ -44,27 +46,31 @@ class Fleet(AnyFleet):
 
     def __init__(
         self,
-        map: Place,
-        robots: Sequence[int],
+        map: Optional[Place] = None,
+        robots: Sequence[int] = (),
         clients: int = 1,
         *,
-        ties: str = "plain",
+        text: Optional[Text] = None,
+        ties: Ties = "plain",
         traces: Optional[Place] = None,
         resume: bool = False,
         roll: bool = True,
         roomy: bool = False,
         built: Optional[Place] = None,
         timeout: Optional[float] = None,
-        **limits: int,
+        life: Optional[int] = None, orders: Optional[int] = None, clock: Optional[int] = None, lane: Optional[int] = None,
+        outlet: Optional[int] = None, queue: Optional[int] = None, mailbox: Optional[int] = None,
+        chapter: Optional[int] = None, chapters: Optional[int] = None,
     ) -> None:
-        told = opening.checked(map, robots, clients, ties, traces, limits)
+        limits = opening.limits_in(locals())
+        told = opening.checked(map, robots, clients, ties, traces, limits, text)
         words = [finding.program(built), "talk", "--marks"]
         if roll:
             words.append("--roll")
         if roomy:
             words.append("--roomy")
         words += opening.trace_words(told, resume)
-        super().__init__(timeout)
+        super().__init__(timeout, Turns())
         self._pending: Deque[Asked] = deque()
         self._lanes: Dict[int, Deque[Order]] = {}
         self._now = 0
@@ -72,8 +78,8 @@ class Fleet(AnyFleet):
         self._shut_robots: Set[int] = set()
         self._waits = Waits()
         # The header lines come from a file, since a fleet that goes on is open before the first line.
-        with head_file(told.head()) as head:
-            self._program = Program(words + [told.map, head], None, self._noted, self._hear_line)
+        with told.files() as files:
+            self._program = Program(words + files, None, self._noted, self._hear_line, self._tell_awaited)
             try:
                 look = self.look()
                 self._cells, self._now = look.cells, look.tick
@@ -156,7 +162,7 @@ class Fleet(AnyFleet):
         return sorted(client for client, lane in list(self._lanes.items()) if lane)
 
     def _make_ticks(self, count: int) -> None:
-        while count > 0 and not self._turns.is_left:
+        while count > 0 and not self._turns.stops():
             part = min(count, TICKS_AT_ONCE)
             answer = self._program.ask(f"tick {part}")[0]
             for client in sorted({arrival.client for arrival in self._arrivals}):
@@ -203,6 +209,9 @@ class Fleet(AnyFleet):
 
     def _turn_page(self) -> Chapter:
         return self._program.reply("chapter", chapter_in)
+
+    def _why_over(self) -> Optional[FleetError]:
+        return self._program.why_over()
 
     def _is_left_open(self) -> bool:
         program = getattr(self, "_program", None)

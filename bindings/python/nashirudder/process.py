@@ -82,7 +82,7 @@ class Program:
 
     A thread writes, and another reads and takes in what is said. Python's signal handlers run in the main thread alone,
     so no exception of theirs can leave half a line written, or an answer half read. The threads do not keep the fleet alive
-    whose methods `noted` and `hear` are.
+    whose methods `noted`, `hear` and `over` are.
     """
 
     def __init__(
@@ -91,8 +91,11 @@ class Program:
         timeout: Optional[float],
         noted: Callable[[Asked], str],
         hear: Callable[[List[str]], None],
+        over: Callable[[], None],
     ) -> None:
-        """Starts it. `noted` notes what is about to be asked, and returns its text; `hear` takes in a line."""
+        """Starts it. `noted` notes what is about to be asked, and returns its text; `hear` takes in a line; `over` is
+        called when it says nothing any more.
+        """
         self.timeout = timeout
         self.status: Optional[int] = None
         self.is_closed = False
@@ -103,7 +106,7 @@ class Program:
         # A queue for each caller that waits. An exception of a signal handler may leave a threading.Condition with a lock
         # that is not held.
         self._waiting: List["queue.SimpleQueue[None]"] = []
-        self._noted, self._hear = weakref.WeakMethod(noted), weakref.WeakMethod(hear)
+        self._noted, self._hear, self._over = weakref.WeakMethod(noted), weakref.WeakMethod(hear), weakref.WeakMethod(over)
         self._is_over = False
         self._misheard: Optional[str] = None
         self._complaints = tempfile.TemporaryFile()
@@ -168,6 +171,10 @@ class Program:
                 self._is_over = True
                 self._wake()
                 is_dropped = self._is_dropped
+            over = self._over()
+            if over is not None:
+                over()
+            del over
             if is_dropped:
                 self._bury()
 
@@ -248,6 +255,12 @@ class Program:
         # How a fleet starts is no complaint.
         return "\n".join(line for line in said.split("\n") if not line.startswith(("fleet: begins anew", "fleet: goes on from ")))
 
+    def why_over(self) -> Optional[FleetError]:
+        """What there is to raise if the program ended, or None as long as it did not."""
+        with self._lock:
+            is_over = self._is_over or self.is_closed
+        return self._ended() if is_over else None
+
     def _ended(self) -> FleetError:
         """What there is to raise if the program ended."""
         if self.is_closed:
@@ -286,15 +299,6 @@ class Program:
         complaint = self.end(timeout)
         if self.status not in (0, 8):
             raise end_of(self.status, complaint)
-
-
-@contextlib.contextmanager
-def head_file(lines: Sequence[str]) -> Iterator[str]:
-    """The name of a file with these header lines, as long as it is needed."""
-    with tempfile.NamedTemporaryFile("w", suffix=".script") as file:
-        file.write("".join(line + "\n" for line in lines))
-        file.flush()
-        yield file.name
 
 
 def silently(call: Callable[[], Any]) -> None:

@@ -28,6 +28,11 @@ def long_number(what: str, value: Any) -> int:
     return whole_number(what, value, most=2**64 - 1)
 
 
+def limits_in(words: Dict[str, Any]) -> Dict[str, int]:
+    """The limits among a function's arguments, without those that were not given."""
+    return {name: words[name] for name in LIMITS if words[name] is not None}
+
+
 def checked_limits(limits: Dict[str, int]) -> Dict[str, int]:
     """Limits by name. Raises TypeError where no limit has a name, and OutOfRange where there is no room for a number.
     """

@@ -14,7 +14,8 @@ from . import finding, opening
 from .errors import Ended, FleetError, Missing, OutOfRange, Refused
 from .events import Arrived, Event, Judged, Moved, NotPosted, Over, Posted
 from .finding import Place
-from .process import end_of, errands_in, head_file, look_in
+from .opening import Text, Ties
+from .process import end_of, errands_in, look_in
 from .ranges import whole_number
 from .records import Look, OpenErrand
 from .stream_pipes import StreamPipes
@@ -62,26 +63,30 @@ class FleetStream:
     @classmethod
     async def open(
         cls,
-        map: Place,
-        robots: Sequence[int],
+        map: Optional[Place] = None,
+        robots: Sequence[int] = (),
         clients: int = 1,
         *,
         period_ms: Optional[float] = None,
         watch: bool = False,
-        ties: str = "plain",
+        text: Optional[Text] = None,
+        ties: Ties = "plain",
         traces: Optional[Place] = None,
         resume: bool = False,
         keep_every_ms: Optional[float] = None,
         metrics: Optional[Place] = None,
         built: Optional[Place] = None,
-        **limits: int,
+        life: Optional[int] = None, orders: Optional[int] = None, clock: Optional[int] = None, lane: Optional[int] = None,
+        outlet: Optional[int] = None, queue: Optional[int] = None, mailbox: Optional[int] = None,
+        chapter: Optional[int] = None, chapters: Optional[int] = None,
     ) -> "FleetStream":
         """Starts the program. With `watch` each turn is an event Moved; the other words are those of `LiveFleet`, and
         `metrics` is the file of figures. Raises what `LiveFleet` raises.
 
         `begun` of what is returned is how the fleet stood then.
         """
-        told = opening.checked(map, robots, clients, ties, traces, limits)
+        limits = opening.limits_in(locals())
+        told = opening.checked(map, robots, clients, ties, traces, limits, text)
         if keep_every_ms is not None and told.traces is None:
             raise OutOfRange("a fleet that keeps a chapter so often has a folder for traces")
         words = [finding.program(built), "live", *opening.trace_words(told, resume), *["--watch"] * watch]
@@ -89,8 +94,8 @@ class FleetStream:
             words += [] if time is None else [word, f"{round(time * 1000)}us"]
         words += [] if metrics is None else ["--metrics", str(metrics)]
         stream = cls()
-        with head_file(told.head()) as head:
-            await stream._start([*words, told.map, head], told)
+        with told.files() as files:
+            await stream._start([*words, *files], told)
         return stream
 
     async def _start(self, words: List[str], told: opening.Opening) -> None:

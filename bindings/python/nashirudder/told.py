@@ -1,10 +1,10 @@
 """What the calls of a `Handle` tell."""
 
 from dataclasses import dataclass
-from typing import TYPE_CHECKING, List, Optional
+from typing import TYPE_CHECKING, Any, List, Optional, Union
 
 from .calls import NOWHERE, CErrand, CJudgement, CNote, CStanding
-from .errors import Refused
+from .errors import NoMemory, Refused
 from .names import STATES, Verdict
 from .records import Arrival, OpenErrand, Standing
 
@@ -66,13 +66,14 @@ class TickRecord:
 
 @dataclass(frozen=True)
 class Taken:
-    """Orders that were taken one after the other: a judgement of each, and the refusal at which it ended, if it did.
+    """Orders that were taken one after the other: a judgement of each, and the refusal, or want of memory, at which it
+    ended, if it did.
 
     The order after the last judgement is the one that was refused. It was not taken, and those after it were not tried.
     """
 
     judgements: List[Judgement]
-    refused: Optional[Refused]
+    refused: Union[Refused, NoMemory, None]
 
 
 @dataclass(frozen=True)

@@ -5,7 +5,7 @@ import threading
 from ctypes import byref
 from typing import TYPE_CHECKING, Any, Dict, List, Optional
 
-from .arrays import as_cells
+from .arrays import as_cells, room_in
 from .calls import CAccount, CErrand, CFleet, CNote, CSetup, CStanding, check
 from .names import Code
 from .ranges import LIMITS, whole_number
@@ -14,7 +14,7 @@ from .texts import text_by
 from .told import Account, Notice, errand_of, notice_of, standing_of
 
 if TYPE_CHECKING:
-    from .arrays import Cells
+    from .arrays import Cells, Room
 
 
 class Views:
@@ -45,17 +45,31 @@ class Views:
         check(self._call(name, *arguments, byref(told)))
         return int(told.value)
 
-    def placement(self) -> "Cells":
-        """Each robot's cell, by the robot's number: an array of `numpy.uint32`, or a list if NumPy is not there."""
-        cells = (ctypes.c_uint32 * self._count)()
+    def placement(self, out: "Optional[Room]" = None) -> "Cells":
+        """Each robot's cell, by the robot's number: an array of `numpy.uint32`, or a list if NumPy is not there.
+
+        With `out`, an array of your own of unsigned numbers of 32 bits with one place for each robot (of NumPy, or
+        `array.array("I", ..)`), the cells are written there, without a copy, and it is returned.
+        """
+        cells = (ctypes.c_uint32 * self._count)() if out is None else room_in(out, ctypes.c_uint32, self._count)
         check(self._call("placement", cells, self._count))
-        return as_cells(cells)
+        return as_cells(cells) if out is None else out
 
     def standings(self) -> List[Standing]:
         """How each robot stands, by the robot's number."""
         told = (CStanding * self._count)()
         check(self._call("standings", told, self._count))
         return [standing_of(one) for one in told]
+
+    def standings_into(self, out: "Room") -> "Room":
+        """The same, into an array of your own with one place for each robot, without a copy: of NumPy with
+        `dtype=STANDING`, or any other of as many bytes. Returns it.
+
+        `goal` is NOWHERE, and `wait` 0, where a robot has no errand; `state` is 1 for "free", 2 for "busy", 3 for
+        "shut".
+        """
+        check(self._call("standings", room_in(out, CStanding, self._count), self._count))
+        return out
 
     def _errands(self, name: str, number: int) -> List[OpenErrand]:
         """The errands that a call lists."""

@@ -60,6 +60,8 @@ class Numbers(unittest.TestCase):
                 with self.subTest(robots=robots), self.assertRaises(OutOfRange):
                     Handle(RING, robots=robots)
             for words in ({"clients": number}, {"queue": number}, {"mailbox": number}, {"chapter": number}):
+                if number is None and "clients" not in words:
+                    continue  # a limit that is not given
                 with self.subTest(words=words), self.assertRaises(OutOfRange):
                     Handle(RING, robots=[0], **words)
         for robots in ([(0, (256, 0, 0, 0))], [(0, (0, 0, 0))], [(0, (0, 0, 0, 0, 0))]):
@@ -183,6 +185,25 @@ class Calls(unittest.TestCase):
         self.refused("chapter-illegal", lambda: judge(ROW, wanted), (1, 3))
         self.refused("trace-shape", lambda: judge(ROW, "{}"), (0, 0))
         self.refused("map-header", lambda: judge("", "{}"), (1, 0))
+
+    def test_goes_on_with_the_limits_of_the_chapter(self):
+        first = Handle(RING, robots=[0, 3], queue=3, life=2**40)
+        first.go(0, 11)
+        first.tick()
+        with Handle.reopen(RING, first.trace()) as fleet:
+            limits = fleet.limits()
+            self.assertEqual((limits["queue"], limits["life"], fleet.clock()), (3, 2**40, 1))
+        with self.assertRaises(Refused) as refused:
+            Handle.reopen(RING, first.trace(), queue=4)
+        self.assertEqual(refused.exception.name, "limits-differ")
+        self.assertIn("the chapter has `queue` 3 and `life` 1099511627776", str(refused.exception))
+
+    def test_a_class_below_keeps_its_name(self):
+        class Mine(Handle):
+            pass
+
+        with Mine(RING, robots=[0]) as fleet:
+            self.assertIs(type(fleet), Mine)
 
     def test_accounts(self):
         fleet = Handle(RING, robots=[0], clients=2)
