@@ -225,6 +225,23 @@ def compare_names(defined):
     say(f"words: {len(answers)} for codes, {len(verdicts)} for verdicts, the same in C, C++, Python and Rust")
 
 
+def compare_table():
+    """The table of docs/EMBEDDING.md names each function of the header, and only what the bindings have."""
+    rows = re.search(r"^\| What \| C .*?\n\|[-|]+\n(.*?)\n\n", (TOP / "docs" / "EMBEDDING.md").read_text(), re.M | re.S)[1].splitlines()
+    columns = [" ".join(cells) for cells in zip(*(row.strip("|").split("|") for row in rows))]
+    named = [set(re.findall(r"`(?:\w+::)?(\w+)", column)) for column in columns]
+    if {f"nashirudder_{name}" for name in named[1]} != set(exports()):
+        fail(f"the table of docs/EMBEDDING.md lacks, or has too many, of {sorted({f'nashirudder_{name}' for name in named[1]} ^ set(exports()))}")
+    python = "".join(path.read_text() for path in sorted((BINDINGS / "python" / "nashirudder").glob("*.py")))
+    texts = ((BINDINGS / "cpp" / "nashirudder.hpp").read_text(), (BINDINGS / "rust" / "src" / "lib.rs").read_text(), python, python)
+    forms = (r"\b{}\(|class {}\b", r"fn {}\b|(?:struct|enum) {}\b", r"def {}\(|class {}\b|\b{}: ", r"def {}\(|class {}\b|\b{}: ")
+    for names, text, form in zip(named[2:], texts, forms):
+        lost = sorted(name for name in names if not re.search(form.replace("{}", name), text))
+        if lost:
+            fail(f"the table of docs/EMBEDDING.md names what is not there: {lost}")
+    say(f"table of docs/EMBEDDING.md: {len(rows)} rows, as in the header and the bindings")
+
+
 def sizes():
     """A program in C that gcc compiles only if the structs have the sizes that their fields come to."""
     def layout(fields):
@@ -246,3 +263,4 @@ def compare():
     defined = compare_header()
     compare_names(defined)
     compare_rust()
+    compare_table()

@@ -128,7 +128,7 @@ static void fits() {
 }
 
 /* The same state and the same orders give the same bytes: for a second fleet, and for one that was saved and loaded. */
-static void deterministic() {
+static std::string deterministic() {
     const Robot robots[3] = {{0, {}}, {3, {}}, {8, {}}};
     auto play = [](Fleet &fleet, std::uint32_t draw) {
         for (int turn = 0; turn < 200; turn++) {
@@ -142,19 +142,26 @@ static void deterministic() {
     play(one, 1);
     play(other, 1);
     CHECK(one.trace() == other.trace());
+    const std::string first = one.trace();
     Fleet loaded = Fleet::reopen(RING, one.trace(), robots, endless_setup(2));
     one.next_chapter();
     play(one, 2);
     play(loaded, 2);
     CHECK(one.trace() == loaded.trace());
+    return first;
 }
 
-int main() {
+/* With a word: prints the trace that each binding makes of the same orders. */
+int main(int count, char **) {
+    if (count > 1) {
+        std::printf("%s", deterministic().c_str());
+        return 0;
+    }
     refusals();
     keepers();
     loops();
     fits();
-    deterministic();
+    (void)deterministic();
 #if defined(__cpp_lib_expected)
     std::printf("bindings/cpp/expected.cpp: all pass, with std::expected\n");
 #else

@@ -23,8 +23,10 @@ keeps:
 On a map with a bridge `within` is None, and a loop that waits for an arrival may never end.
 `bindings/python/controller.py` is a fleet that runs for months.
 
-Cells count row by row from 0, robots and clients from 0, ticks and errands from 1. The program and the library are not
-part of the package: `nashirudder.finding` says where they are looked for. Every exception of the package is a
+A fleet may be opened and closed by `async with` too, and `await errand` returns its arrival.
+
+Cells count row by row from 0, robots and clients from 0, ticks and errands from 1. A wheel of `tools/wheel` holds the
+program and the library; `nashirudder.finding` says where they are looked for otherwise. Every exception of the package is a
 `FleetError`; `nashirudder.errors` has the tree. `placement` and `distances` return NumPy arrays where NumPy is there,
 and lists where it is not; all other lists of cells are lists of int.
 """

@@ -1,9 +1,10 @@
 """Where the program `fleet` and the library are found. The first place that has what is looked for is taken:
 
 1. `built`, an argument of each class: the program or the library itself, or a folder that has it; 2. the folder that
-the environment variable NASHIRUDDER_DIR names; 3. the folder that this Python is installed in (`sys.prefix`: of a
-virtual environment its own), and the clone of Nashirudder whose `bindings/python` this package is; 4. the program: the
-folders in PATH. The library: where the system looks (as in /usr/local/lib, or LD_LIBRARY_PATH).
+the environment variable NASHIRUDDER_DIR names; 3. the package itself, if it came as a wheel of `tools/wheel`, which has
+both; the folder that this Python is installed in (`sys.prefix`: of a virtual environment its own), and the clone of
+Nashirudder whose `bindings/python` this package is; 4. the program: the folders in PATH. The library: where the system
+looks (as in /usr/local/lib, or LD_LIBRARY_PATH).
 
 Of a folder itself and `bin/`, `lib/`, `lib64/` and `build_c/` below it are looked at: so it may be the PREFIX of
 `tools/install_c`, the folder `bin` or `build_c` of a clone, or the clone. Where `built` is given no other place is
@@ -46,7 +47,7 @@ def _in_folder(folder: pathlib.Path, names: Sequence[str]) -> Optional[pathlib.P
 
 def _folders() -> List[pathlib.Path]:
     """The folders to look at, if no other one is named."""
-    found = [pathlib.Path(sys.prefix)]
+    found = [pathlib.Path(__file__).resolve().parent / "built", pathlib.Path(sys.prefix)]
     named = os.environ.get(VARIABLE)
     if named:
         found.insert(0, pathlib.Path(named))

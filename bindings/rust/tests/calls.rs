@@ -425,6 +425,10 @@ fn is_deterministic() -> Result<(), Error> {
     play(&mut one, 1)?;
     play(&mut other, 1)?;
     assert_eq!(one.trace()?, other.trace()?);
+    // What C++ makes of the same orders, by tools/build_c
+    if let Ok(path) = std::env::var("NASHIRUDDER_SAME") {
+        assert_eq!(one.trace()?, std::fs::read_to_string(path).expect("a file"));
+    }
     let mut loaded = Fleet::reopen(RING, &one.trace()?, &robots, &setup)?;
     one.next_chapter()?;
     play(&mut one, 2)?;

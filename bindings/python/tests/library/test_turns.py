@@ -7,7 +7,8 @@ import threading
 import time
 import unittest
 
-from nashirudder.library import Fleet
+from nashirudder import opening
+from nashirudder.library import Fleet, Handle
 from nashirudder.turns import OwnTurns
 
 RING = "type octile\nheight 3\nwidth 3\nmap\n...\n.@.\n...\n"
@@ -75,6 +76,21 @@ class TurnsTest(unittest.TestCase):
 
 
 class SameTest(unittest.TestCase):
+    def test_the_same_orders_give_the_bytes_of_the_other_bindings(self):
+        ring = "type octile\nheight 3\nwidth 4\nmap\n....\n.@..\n....\n"
+        with Handle(ring, [0, 3, 8], clients=2, **opening.ENDLESS) as fleet:
+            draw = 1
+            for _ in range(200):
+                draw = (draw * 1_103_515_245 + 12_345) % 2**32
+                fleet.go((draw >> 17) & 3, (draw >> 19) % 12, client=(draw >> 16) & 1)
+                fleet.tick()
+                for client in range(2):
+                    fleet.give_many(client)
+            # What C++ makes of them, by tools/build_c
+            same = os.environ.get("NASHIRUDDER_SAME")
+            if same is not None:
+                self.assertEqual(fleet.trace(), pathlib.Path(same).read_text())
+
     def test_the_same_state_and_orders_give_the_same_bytes(self):
         """For a second fleet, and for one that was saved and loaded."""
         import tempfile

@@ -1,0 +1,84 @@
+"""The state of a fleet as a value: kept, gone back to, changed, and gone on from."""
+
+import unittest
+
+from nashirudder import OutOfRange, Refused
+from nashirudder.library import Handle, Map, State, StateRobot, judge
+
+RING = "type octile\nheight 3\nwidth 4\nmap\n....\n.@..\n....\n"
+WALL = RING.replace(".@..", ".@@.")
+
+
+def play(fleet, ticks=30):
+    for tick in range(ticks):
+        fleet.go(tick % 2, (7 * tick) % 12)
+        fleet.tick()
+        fleet.give_many()
+    return fleet.trace()
+
+
+class StateTest(unittest.TestCase):
+    def setUp(self):
+        self.fleet = Handle(RING, [0, 3], queue=5)
+        self.addCleanup(self.fleet.close)
+        for robot, cell in ((0, 11), (0, 2), (1, 8)):
+            self.fleet.go(robot, cell)
+        self.fleet.tick()
+        self.fleet.next_chapter()
+        self.state = self.fleet.opening()
+
+    def refused(self, map, sentence):
+        with self.assertRaises(Refused) as refused:
+            Handle.reopen(map, self.state.trace())
+        self.assertEqual(refused.exception.name, "chapter-illegal")
+        self.assertIn(sentence, str(refused.exception))
+
+    def test_going_back(self):
+        self.assertEqual(State.of(self.state.trace()), self.state)
+        self.assertEqual(self.state.trace(), self.fleet.trace())
+        self.fleet.next_chapter()
+        onwards = play(self.fleet)
+        # A fleet that goes on from the state has the same number of chapter, orders and ticks, and the same bytes.
+        with Handle.reopen(RING, self.state.trace()) as again:
+            self.assertEqual(play(again), onwards)
+        judge(RING, onwards)
+
+    def test_changes(self):
+        state = self.state
+        self.assertEqual(([one.cell for one in state.robots], state.tick, state.queue, state.chapter), ([1, 7], 1, 5, 1))
+        self.assertEqual([(one.client, one.number, one.cell) for one in state.robots[0].errands], [(0, 1, 11), (0, 2, 2)])
+        self.assertEqual(state.cancel(0).number, 1)
+        state.move(1, 4)
+        state.robots.append(StateRobot(cell=10))
+        with Handle.reopen(RING, state.trace()) as fleet:
+            self.assertEqual((list(fleet.placement()), fleet.clock(), fleet.robots()), ([1, 4, 10], 1, 3))
+            self.assertEqual([one.cell for one in fleet.queue(0)], [2])
+            self.assertEqual((fleet.go(2, 9).number, fleet.limits()["queue"]), (4, 5))
+        del state.robots[0]
+        with Handle.reopen(RING, state.trace()) as fleet:
+            self.assertEqual((list(fleet.placement()), fleet.is_idle()), ([4, 10], False))
+
+    def test_a_wall(self):
+        with Handle.reopen(WALL, self.state.trace()) as fleet:
+            while not fleet.is_idle():
+                fleet.tick()
+            judge(WALL, fleet.trace())
+        self.state.move(1, 6)
+        self.refused(WALL, "robot 1 is on cell 6, which is no floor")
+        self.state.move(1, 1)
+        self.refused(WALL, "robots 0 and 1 are both on cell 1")
+        self.state.move(1, 7)
+        self.state.robots[1].errands[0].cell = 6
+        self.refused(WALL, "no walk leads robot 1 from cell 7 to cell 6, where its errand 3 of client 0 goes")
+        with Map(RING) as ring:
+            self.assertIsNone(self.state.fault(ring))
+
+    def test_what_is_no_state(self):
+        for text in ("", "{}", "[1]", '{"opening":{"robots":[[1]]}}', self.fleet.trace()[:-1]):
+            self.assertRaises(OutOfRange, State.of, text)
+        for call in (lambda: self.state.cancel(0, 3), lambda: self.state.cancel(2), lambda: self.state.move(2, 0)):
+            self.assertRaises(OutOfRange, call)
+
+
+if __name__ == "__main__":
+    unittest.main()
