@@ -63,7 +63,7 @@ template <typename T> using Span = std::span<T>;
 template <typename T> class Span {
 public:
     Span() = default;
-    Span(T *first, std::size_t count) : first(first), count(count) {}
+    Span(T *begin, std::size_t size_of) : first(begin), count(size_of) {}
     template <std::size_t Count> Span(T (&list)[Count]) : first(list), count(Count) {}
     template <typename List, typename = std::enable_if_t<std::is_convertible_v<decltype(std::declval<List &>().data()), T *>>>
     Span(List &&list) : first(list.data()), count(list.size()) {}
@@ -204,6 +204,12 @@ public:
     Fault fault;
 };
 
+/* A keeper of chapters called its own fleet (Fleet::roll). */
+class Reentered : public std::logic_error {
+public:
+    Reentered() : std::logic_error("nashirudder: a keeper of chapters called its own fleet") {}
+};
+
 #if defined(__cpp_lib_expected)
 template <typename T> using Expected = std::expected<T, Fault>;
 namespace detail {
@@ -212,7 +218,7 @@ using Unexpected = std::unexpected<Fault>;
 #else
 namespace detail {
 struct Unexpected {
-    explicit Unexpected(const Fault &fault) : fault(fault) {}
+    explicit Unexpected(const Fault &why) : fault(why) {}
     Fault fault;
 };
 } // namespace detail
@@ -394,7 +400,7 @@ public:
 private:
     friend class Fleet;
     Chapter() = default;
-    explicit Chapter(const nashirudder_fleet &full) : full(&full) {}
+    explicit Chapter(const nashirudder_fleet &fleet) : full(&fleet) {}
 
     nashirudder_chapter handle = NASHIRUDDER_CLOSED;
     const nashirudder_fleet *full = nullptr; // the fleet whose present chapter this is
@@ -466,9 +472,9 @@ public:
     [[nodiscard]] Expected<Judgement> try_close_client(std::uint32_t client) {
         return judged([&](Judgement *told) { return nashirudder_close_client(&handle, client, told); });
     }
-    [[nodiscard]] Judgement withdraw(std::uint32_t client, std::uint64_t number) { return detail::value_of(try_withdraw(client, number)); }
-    [[nodiscard]] Expected<Judgement> try_withdraw(std::uint32_t client, std::uint64_t number) {
-        return judged([&](Judgement *told) { return nashirudder_withdraw(&handle, client, number, told); });
+    [[nodiscard]] Judgement withdraw(std::uint32_t client, std::uint64_t errand) { return detail::value_of(try_withdraw(client, errand)); }
+    [[nodiscard]] Expected<Judgement> try_withdraw(std::uint32_t client, std::uint64_t errand) {
+        return judged([&](Judgement *told) { return nashirudder_withdraw(&handle, client, errand, told); });
     }
     Report tick() { return detail::value_of(try_tick()); }
     [[nodiscard]] Expected<Report> try_tick() {
@@ -659,7 +665,7 @@ public:
        nothing if it always does. Where it returns false, Code::chapter_full is thrown, and what it throws is thrown on: then fleet
        and chapter are as they were, and the next call shows the chapter again. The chapter is gone when `keep` returns: take its
        trace, or hand chapters out by yourself for another thread to write. Of this fleet `keep` may call what is const; a call
-       that may find the chapter full is refused by std::logic_error. */
+       that may find the chapter full is refused by Reentered, and it may not move the fleet. */
     template <typename Keep> void roll(Keep keep) {
         forbid_keeper();
         if constexpr (std::is_void_v<std::invoke_result_t<Keep &, const Chapter &>>) {
@@ -749,7 +755,7 @@ private:
     bool is_kept() {
         if (!keeper) return true;
         struct Busy {
-            explicit Busy(bool &flag) : flag(flag) { flag = true; }
+            explicit Busy(bool &told) : flag(told) { flag = true; }
             ~Busy() { flag = false; }
             bool &flag;
         } busy(is_keeping);
@@ -757,7 +763,7 @@ private:
         return (*keep)(Chapter(handle));
     }
     void forbid_keeper() const {
-        if (is_keeping) NASHIRUDDER_THROW(std::logic_error("nashirudder: a keeper of chapters called its own fleet"));
+        if (is_keeping) NASHIRUDDER_THROW(Reentered());
     }
     /* The number of a chapter, as its trace begins: {"chapter":N, */
     static std::uint64_t number_in(const std::string &text) {
@@ -802,7 +808,7 @@ public:
         using reference = const Note &;
 
         Iterator() = default;
-        explicit Iterator(Notices *of) : of(of) { ++*this; }
+        explicit Iterator(Notices *range) : of(range) { ++*this; }
         reference operator*() const { return *note; }
         pointer operator->() const { return &*note; }
         Iterator &operator++() {
@@ -824,7 +830,7 @@ public:
 
 private:
     friend class Fleet;
-    Notices(Fleet &fleet, std::uint32_t client) : fleet(&fleet), client(client) {}
+    Notices(Fleet &of, std::uint32_t whose) : fleet(&of), client(whose) {}
 
     Fleet *fleet;
     std::uint32_t client;

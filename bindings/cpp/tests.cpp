@@ -432,7 +432,7 @@ static void keeper_calls_its_fleet() {
     auto is_refused = [&](auto call) {
         try {
             call();
-        } catch (const std::logic_error &) {
+        } catch (const Reentered &) {
             refused++;
         }
     };

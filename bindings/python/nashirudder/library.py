@@ -112,15 +112,15 @@ class Fleet(AnyFleet):
     # ---- what AnyFleet asks for
 
     def _in_turn(self, call: Callable[[], T]) -> T:
-        if self._is_closed:
-            raise Ended(self._status, "the fleet is closed")
-        return super()._in_turn(lambda: self._while_open(call))
+        def while_open() -> T:
+            if self._is_closed:
+                # By another thread, before this call's turn.
+                raise Ended(self._status, "the fleet is closed")
+            return call()
 
-    def _while_open(self, call: Callable[[], T]) -> T:
         if self._is_closed:
-            # By another thread, before this call's turn.
             raise Ended(self._status, "the fleet is closed")
-        return call()
+        return self._turns.make(while_open, self._timeout)
 
     def _entered(self, call: Callable[[], T]) -> T:
         """Makes a call that is an entry of the history; if the chapter is full, in the next one, if there is one and
@@ -187,12 +187,14 @@ class Fleet(AnyFleet):
                 return
             cells, arrivals, farewells = self._entered(self._quick.tick)
             self._cells = cells
-            self._farewells += [Farewell(robot, 0) for robot in farewells]
-            self._arrivals += arrivals
-            for arrival in arrivals:
-                self._ledger.arrived(arrival)
-            for client in {arrival.client for arrival in arrivals}:
-                self._collect(client)
+            if farewells:
+                self._farewells += [Farewell(robot, 0) for robot in farewells]
+            if arrivals:
+                self._arrivals += arrivals
+                for arrival in arrivals:
+                    self._ledger.arrived(arrival)
+                for client in {arrival.client for arrival in arrivals}:
+                    self._collect(client)
 
     def _make_shut(self, robot: int) -> None:
         if self._entered(lambda: self._handle.shut(robot)):

@@ -17,6 +17,8 @@ class QuickCalls:
     def __init__(self, call: Callable[..., int], robots: int) -> None:
         self._call, self._count = call, robots
         self._cells, self._gone = (ctypes.c_uint32 * robots)(), (ctypes.c_uint32 * robots)()
+        # Of which a list is made faster than of the array itself
+        self._seen = memoryview(self._cells).cast("B").cast("I")
         self._came, self._notes = (CArrival * robots)(), (CNote * _NOTES)()
         self._did, self._judged, self._given = CReport(), CJudgement(), ctypes.c_size_t()
         self._ticked: Tuple[Any, ...] = (
@@ -27,17 +29,16 @@ class QuickCalls:
     def cells(self) -> List[int]:
         """Where the robots stand."""
         check(self._call("placement", self._cells, self._count))
-        return self._cells[:]
+        return self._seen.tolist()
 
     def tick(self) -> Tuple[List[int], List[Arrival], List[int]]:
         """A tick: where the robots stand after it, who arrived, and who said farewell."""
         check(self._call("tick_into", *self._ticked))
-        tick = self._did.tick
+        tick, arrived, farewells = self._did.tick, self._did.arrived, self._did.farewells
         arrivals = [
-            Arrival(one.robot, one.client, one.number, one.cell, tick, one.stamp)
-            for one in self._came[: self._did.arrived]
-        ]
-        return self._cells[:], arrivals, self._gone[: self._did.farewells]
+            Arrival(one.robot, one.client, one.number, one.cell, tick, one.stamp) for one in self._came[:arrived]
+        ] if arrived else []
+        return self._seen.tolist(), arrivals, self._gone[:farewells] if farewells else []
 
     def judge(self, call: str, *numbers: int) -> Tuple[Verdict, Optional[int]]:
         """An order: its verdict, and the errand's number if it was accepted."""

@@ -185,7 +185,7 @@ class OwnTurns:
 
     def _alone(self, call: Callable[[], T]) -> T:
         with self._lock:
-            if self._is_held or threading.current_thread() is not threading.main_thread():
+            if self._is_held or threading.get_ident() != threading.main_thread().ident:
                 return call()
             try:
                 self._hold()
