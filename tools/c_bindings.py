@@ -140,6 +140,11 @@ def compare_header():
 RUST = {"Handle": "Handle", "MapHandle": "Handle", "ChapterHandle": "Handle", "Robot": "crate::Robot", "Report": "crate::Report"}
 
 
+def rust_text():
+    """The sources of bindings/rust."""
+    return "\n".join(path.read_text() for path in sorted((BINDINGS / "rust" / "src").glob("*.rs")))
+
+
 def rust_type(rattle):
     return rattle if rattle in NUMBERS else RUST.get(rattle) or "Raw" + STRUCTS[rattle].capitalize()
 
@@ -156,7 +161,7 @@ def rust_parameter(name, rattle):
 def compare_rust():
     """The declarations of bindings/rust are those of the sources."""
     raw = (BINDINGS / "rust" / "src" / "raw.rs").read_text()
-    text = raw + (BINDINGS / "rust" / "src" / "lib.rs").read_text()
+    text = rust_text()
     wanted = {name: [parameter for given in parameters for parameter in rust_parameter(*given)] + ([result] if result else [])
               for _, name, parameters, result in c_sources.exports_of(SOURCES)}
     wanted["nashirudder_is_proved"] = ["bool"]
@@ -181,7 +186,7 @@ def compare_version(text):
     parts = [int(number) for number in re.findall(r"^#define NASHIRUDDER_VERSION_(?:MAJOR|MINOR|PATCH) (\d+)", text, re.M)]
     number = parts[0] * 10000 + parts[1] * 100 + parts[2]
     cargo = re.search(r'^version = "(.*)"', (BINDINGS / "rust" / "Cargo.toml").read_text(), re.M)[1]
-    rust = int(re.search(r"^const VERSION: u32 = (\d+);", (BINDINGS / "rust" / "src" / "lib.rs").read_text(), re.M)[1])
+    rust = int(re.search(r"^const VERSION: u32 = (\d+);", rust_text(), re.M)[1])
     python = int(re.search(r"^VERSION = (\d+)$", (BINDINGS / "python" / "nashirudder" / "calls.py").read_text(), re.M)[1])
     kept = re.search(r'^SONAME = "(.*)"$', (BINDINGS / "python" / "nashirudder" / "finding.py").read_text(), re.M)[1]
     wanted = f"libnashirudder.so.{parts[0]}" if parts[0] > 0 else f"libnashirudder.so.0.{parts[1]}"
@@ -209,7 +214,7 @@ def compare_names(defined):
     python = (BINDINGS / "python" / "nashirudder" / "names.py").read_text()
     tables = {f"{what.lower()}s": {number: name.lower().replace("_", "-") for name, number in re.findall(r"^    (\w+) = (\d+)$", body, re.M)}
               for what, body in re.findall(r"^class (Code|Verdict)\(enum\.IntEnum\):\n(.*?)^(?=\S)", python, re.S | re.M)}
-    text = (BINDINGS / "rust" / "src" / "lib.rs").read_text()
+    text = rust_text()
     numbers = dict(re.findall(r"Code::(\w+) => (\d+),", text))
     rust = {numbers[name]: word for name, word in re.findall(r'Code::(\w+) => "([\w-]+)"', text)}
     for what, wanted in (("codes", answers), ("verdicts", verdicts)):
@@ -218,7 +223,7 @@ def compare_names(defined):
                 fail(f"the words for {what} in bindings/{binding} are {found}, and should be {wanted}")
     if rust != {number: name for number, name in answers.items() if number != "0"}:
         fail("the codes of bindings/rust differ from the header's")
-    rust_verdicts = re.findall(r'Verdict::\w+(?:\(_\))? => "([\w-]+)"', (BINDINGS / "rust" / "src" / "lib.rs").read_text())
+    rust_verdicts = re.findall(r'Verdict::\w+(?:\(_\))? => "([\w-]+)"', rust_text())
     # The last one stands for numbers that the crate does not have.
     if rust_verdicts != [*verdicts.values(), "unknown"]:
         fail("the verdicts of bindings/rust differ from the sources'")
@@ -233,7 +238,7 @@ def compare_table():
     if {f"nashirudder_{name}" for name in named[1]} != set(exports()):
         fail(f"the table of docs/EMBEDDING.md lacks, or has too many, of {sorted({f'nashirudder_{name}' for name in named[1]} ^ set(exports()))}")
     python = "".join(path.read_text() for path in sorted((BINDINGS / "python" / "nashirudder").glob("*.py")))
-    texts = ((BINDINGS / "cpp" / "nashirudder.hpp").read_text(), (BINDINGS / "rust" / "src" / "lib.rs").read_text(), python, python)
+    texts = ((BINDINGS / "cpp" / "nashirudder.hpp").read_text(), rust_text(), python, python)
     forms = (r"\b{}\(|class {}\b", r"fn {}\b|(?:struct|enum) {}\b", r"def {}\(|class {}\b|\b{}: ", r"def {}\(|class {}\b|\b{}: ")
     for names, text, form in zip(named[2:], texts, forms):
         lost = sorted(name for name in names if not re.search(form.replace("{}", name), text))
