@@ -239,7 +239,7 @@ def compare_table():
         fail(f"the table of docs/EMBEDDING.md lacks, or has too many, of {sorted({f'nashirudder_{name}' for name in named[1]} ^ set(exports()))}")
     python = "".join(path.read_text() for path in sorted((BINDINGS / "python" / "nashirudder").glob("*.py")))
     texts = ((BINDINGS / "cpp" / "nashirudder.hpp").read_text(), rust_text(), python, python)
-    forms = (r"\b{}\(|class {}\b", r"fn {}\b|(?:struct|enum) {}\b", r"def {}\(|class {}\b|\b{}: ", r"def {}\(|class {}\b|\b{}: ")
+    forms = (r"\b{}\(|(?:class|struct) {}\b", r"fn {}\b|(?:struct|enum) {}\b", r"def {}\(|class {}\b|\b{}: ", r"def {}\(|class {}\b|\b{}: ")
     for names, text, form in zip(named[2:], texts, forms):
         lost = sorted(name for name in names if not re.search(form.replace("{}", name), text))
         if lost:

@@ -151,6 +151,45 @@ static std::string deterministic() {
     return first;
 }
 
+/* The state as a value: kept, gone back to, changed, and gone on from. */
+static void openings() {
+    const Robot robots[2] = {{0, {}}, {3, {}}}, three[3] = {{0, {}}, {0, {}}, {0, {}}};
+    Fleet fleet(RING, robots);
+    CHECK(fleet.go(0, 0, 11).number == 1 && fleet.go(0, 0, 2).number == 2 && fleet.go(0, 1, 8).number == 3);
+    fleet.tick();
+    CHECK(fleet.opening().tick == 0);
+    fleet.next_chapter();
+    Opening state = fleet.opening();
+    const std::string text = fleet.trace();
+    CHECK(state.trace() == text && Opening::of(text).trace() == text && state.tick == 1 && state.chapter == 1 && state.queue == 16);
+    auto play = [](Fleet &of) {
+        for (std::uint32_t tick = 0; tick < 30; tick++) {
+            (void)of.go(0, tick % 2, 7 * tick % 12);
+            of.tick();
+            (void)of.give_all(0);
+        }
+        return of.trace();
+    };
+    fleet.next_chapter();
+    const std::string onwards = play(fleet);
+    Fleet again = Fleet::reopen(RING, state.trace(), robots);
+    CHECK(play(again) == onwards && Opening::of(onwards).robots[0].cell == 1);
+
+    // A wall is built on cell 6, robot 1 is moved, a robot comes, and one loses the errand that it heads for.
+    const std::string wall = "type octile\nheight 3\nwidth 4\nmap\n....\n.@@.\n....\n";
+    CHECK(state.robots[0].cancel(1)->cell == 11 && state.robots[0].wait == 0 && !state.robots[0].cancel(2) && !state.robots[0].cancel(0));
+    state.robots[1].move_to(4);
+    state.robots.emplace_back().cell = 10;
+    Fleet next = Fleet::reopen(wall, state.trace(), three);
+    CHECK((next.placement() == std::vector<std::uint32_t>{1, 4, 10}) && next.queue(0).size() == 1);
+    while (!next.is_idle()) next.tick();
+    CHECK(next.placement()[0] == 2 && next.placement()[1] == 8);
+    for (std::size_t end = 0; end < text.size(); end++) CHECK(Opening::try_of(std::string_view(text).substr(0, end)).error().code == Code::trace_shape);
+    std::string great = text;
+    great.replace(great.find("\"tick\":1"), 8, "\"tick\":18446744073709551616");
+    CHECK(!Opening::try_of(great) && !Opening::try_of(text + " "));
+}
+
 /* With a word: prints the trace that each binding makes of the same orders. */
 int main(int count, char **) {
     if (count > 1) {
@@ -161,6 +200,7 @@ int main(int count, char **) {
     keepers();
     loops();
     fits();
+    openings();
     (void)deterministic();
 #if defined(__cpp_lib_expected)
     std::printf("bindings/cpp/expected.cpp: all pass, with std::expected\n");

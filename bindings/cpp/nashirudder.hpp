@@ -406,6 +406,166 @@ private:
     const nashirudder_fleet *full = nullptr; // the fleet whose present chapter this is
 };
 
+/* How a fleet stands at the beginning of a chapter, as a value (Fleet::opening). It may be kept, changed, and gone on from: on
+   another map, with robots that were moved, added or removed, without an errand. Each robot has a floor cell of its own then,
+   from which a walk leads to the cells of its errands. */
+struct Opening {
+    struct Errand {
+        std::uint32_t client = 0;
+        std::uint64_t number = 0;
+        std::uint32_t cell = 0;
+    };
+    struct Robot {
+        std::uint32_t cell = 0;
+        bool shut = false;
+        std::optional<std::uint64_t> wait{}; // nothing exactly where there are no errands
+        std::vector<Errand> errands{};
+        std::uint32_t laws[4] = {0, 0, 0, 0}; // the stamps of arrivals and of the farewell, from one to the other
+
+        /* Puts the robot on another cell; it has waited no tick then. */
+        void move_to(std::uint32_t where) {
+            cell = where;
+            wait_anew();
+        }
+        /* Takes the errand at this place of the queue, from 1, away, also the one that the robot heads for, and returns it. */
+        std::optional<Errand> cancel(std::size_t place) {
+            if (place == 0 || place > errands.size()) return std::nullopt;
+            const Errand gone = errands[place - 1];
+            errands.erase(errands.begin() + static_cast<std::ptrdiff_t>(place - 1));
+            if (place == 1) wait_anew();
+            return gone;
+        }
+        void wait_anew() { wait = errands.empty() ? std::nullopt : std::optional<std::uint64_t>(0); }
+    };
+    struct Client {
+        std::uint64_t taken = 0, accepted = 0, noticed = 0;
+        bool closed = false;
+    };
+
+    std::uint64_t chapter = 0, tick = 0, life = 0, queue = 0;
+    std::vector<Client> clients{};
+    std::vector<Robot> robots{};
+    std::uint64_t version = 2;
+
+    /* Of the text of a chapter, as the library writes it; else NASHIRUDDER_TRACE_SHAPE. */
+    [[nodiscard]] static Expected<Opening> try_of(std::string_view trace);
+    [[nodiscard]] static Opening of(std::string_view trace) { return detail::value_of(try_of(trace)); }
+    /* The text of a chapter that begins so, and has no entries: for Fleet::reopen. */
+    [[nodiscard]] std::string trace() const;
+};
+
+namespace detail {
+
+/* Reads the text of a chapter as the library writes it; `good` until something else stands there. */
+struct Reader {
+    std::string_view rest;
+    bool good = true;
+
+    bool is(std::string_view word) {
+        if (rest.substr(0, word.size()) != word) return false;
+        rest.remove_prefix(word.size());
+        return true;
+    }
+    void need(std::string_view word) { good = good && is(word); }
+    template <typename Number> void number(Number &into, std::string_view before = {}) {
+        need(before);
+        std::uint64_t found = 0;
+        std::size_t digits = 0;
+        for (; digits < rest.size() && rest[digits] >= '0' && rest[digits] <= '9'; digits++) {
+            const auto digit = static_cast<std::uint64_t>(rest[digits] - '0');
+            good = good && found <= (UINT64_MAX - digit) / 10;
+            found = found * 10 + digit;
+        }
+        rest.remove_prefix(digits);
+        into = static_cast<Number>(found);
+        good = good && digits > 0 && into == found;
+    }
+    void truth(bool &into, std::string_view before) {
+        need(before);
+        into = is("true");
+        good = good && (into || is("false"));
+    }
+    template <typename Item, typename Read> void list(std::vector<Item> &into, std::string_view before, Read read) {
+        need(before);
+        need("[");
+        if (!good || is("]")) return;
+        do {
+            read(into.emplace_back());
+        } while (good && is(","));
+        need("]");
+    }
+    /* Passes over a list, in whose strings there is no bracket. */
+    void pass() {
+        std::size_t depth = 0, at = 0;
+        do {
+            if (at == rest.size()) return void(good = false);
+            depth += rest[at] == '[';
+            depth -= rest[at] == ']';
+        } while (rest[at++] != ']' || depth > 0);
+        rest.remove_prefix(at);
+    }
+};
+
+template <typename Item, typename Text> std::string listed(const std::vector<Item> &items, Text text) {
+    std::string list = "[";
+    for (const Item &item : items) list += (list.size() > 1 ? "," : "") + text(item);
+    return list + "]";
+}
+
+} // namespace detail
+
+inline Expected<Opening> Opening::try_of(std::string_view trace) {
+    detail::Reader reader{trace};
+    Opening it;
+    reader.number(it.chapter, "{\"chapter\":");
+    reader.need(",\"entries\":");
+    reader.pass();
+    reader.list(it.clients, ",\"opening\":{\"clients\":", [&](Client &one) {
+        reader.number(one.taken, "[");
+        reader.number(one.accepted, ",");
+        reader.number(one.noticed, ",");
+        reader.truth(one.closed, ",");
+        reader.need("]");
+    });
+    reader.number(it.life, ",\"life\":");
+    reader.number(it.queue, ",\"queue\":");
+    reader.list(it.robots, ",\"robots\":", [&](Robot &one) {
+        reader.number(one.cell, "[");
+        reader.truth(one.shut, ",");
+        if (!reader.is(",null")) reader.number(one.wait.emplace(), ",");
+        reader.list(one.errands, ",", [&](Errand &errand) {
+            reader.number(errand.client, "[");
+            reader.number(errand.number, ",");
+            reader.number(errand.cell, ",");
+            reader.need("]");
+        });
+        for (int law = 0; law < 4; law++) reader.number(one.laws[law], law == 0 ? ",[" : law == 2 ? "],[" : ",");
+        reader.need("]]");
+    });
+    reader.number(it.tick, ",\"tick\":");
+    reader.number(it.version, "},\"version\":");
+    reader.need("}");
+    if (!reader.good || !reader.rest.empty()) return detail::Unexpected(Fault{0, 0, NASHIRUDDER_TRACE_SHAPE});
+    return it;
+}
+
+inline std::string Opening::trace() const {
+    using std::to_string;
+    const auto truth = [](bool is) { return std::string(is ? "true" : "false"); };
+    const std::string clients_told = detail::listed(clients, [&](const Client &one) {
+        return "[" + to_string(one.taken) + "," + to_string(one.accepted) + "," + to_string(one.noticed) + "," + truth(one.closed) + "]";
+    });
+    const std::string robots_told = detail::listed(robots, [&](const Robot &one) {
+        const std::string queued = detail::listed(one.errands, [](const Errand &errand) {
+            return "[" + to_string(errand.client) + "," + to_string(errand.number) + "," + to_string(errand.cell) + "]";
+        });
+        return "[" + to_string(one.cell) + "," + truth(one.shut) + "," + (one.wait ? to_string(*one.wait) : "null") + "," + queued + ",[" +
+               to_string(one.laws[0]) + "," + to_string(one.laws[1]) + "],[" + to_string(one.laws[2]) + "," + to_string(one.laws[3]) + "]]";
+    });
+    return "{\"chapter\":" + to_string(chapter) + ",\"entries\":[],\"opening\":{\"clients\":" + clients_told + ",\"life\":" + to_string(life) +
+           ",\"queue\":" + to_string(queue) + ",\"robots\":" + robots_told + ",\"tick\":" + to_string(tick) + "},\"version\":" + to_string(version) + "}";
+}
+
 class Notices;
 
 /* A fleet. One that was moved from has no robots, and every call on it that is not refused changes nothing. */
@@ -638,6 +798,8 @@ public:
     [[nodiscard]] Expected<std::string> try_trace() const {
         return detail::text_by([&](std::uint8_t *text, std::size_t size, std::size_t *length) { return nashirudder_trace(&handle, text, size, length); });
     }
+    /* How the fleet stood at the beginning of the present chapter; after next_chapter or hand_out, how it stands now. */
+    [[nodiscard]] Opening opening() const { return Opening::of(trace()); }
     void next_chapter() { detail::value_of(try_next_chapter()); }
     [[nodiscard]] Expected<void> try_next_chapter() {
         forbid_keeper();

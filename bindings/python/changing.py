@@ -1,5 +1,5 @@
 """A fleet whose world changes: a wall is built, a robot comes, one is moved by hand, and an errand is dropped."""
-from nashirudder.library import Handle, Refused, StateRobot
+from nashirudder.library import Handle, Refused, OpeningRobot
 
 YARD = "type octile\nheight 3\nwidth 4\nmap\n....\n.@..\n....\n"
 WALL = "type octile\nheight 3\nwidth 4\nmap\n....\n.@@.\n....\n"
@@ -15,7 +15,7 @@ print(f"tick {state.tick}: robots on", *(robot.cell for robot in state.robots))
 
 state.cancel(1)                                     # also the errand that a robot heads for
 state.move(1, 8)
-state.robots.append(StateRobot(cell=6))             # which is floor in the yard, and a wall on the new map
+state.robots.append(OpeningRobot(cell=6))             # which is floor in the yard, and a wall on the new map
 try:
     Handle.reopen(WALL, state.trace())
 except Refused as refused:

@@ -17,7 +17,7 @@ from .names import Code
 from .opening import MapText, Text, map_text, text_of
 from .ranges import checked_limits, limits_in, long_number, whole_number
 from .records import Arrival
-from .state import State
+from .state import Opening
 from .told import Judgement, Notice, Report, TickRecord, judgement_of, notice_of
 from .uncopied import Uncopied
 from .views import Views
@@ -134,7 +134,7 @@ class Handle(Uncopied, Views, Batches):
             if refused.name == "chapter-illegal" and refused.numbers == (0, 1):
                 # The opening does not fit the map.
                 with Map(texts[0], built=built) as on:
-                    why = State.of(texts[1]).fault(on)
+                    why = Opening.of(texts[1]).fault(on)
                 refused.sentence += f": {why}" if why else ""
             raise
         return fleet
@@ -252,11 +252,11 @@ class Handle(Uncopied, Views, Batches):
         """
         check(self._call("next_chapter"))
 
-    def opening(self) -> State:
+    def opening(self) -> Opening:
         """How the fleet stood at the beginning of the present chapter; after `next_chapter` or `hand_out`, how it stands
         now. It may be kept, changed, and passed to `reopen` by its `trace`.
         """
-        return State.of(self.trace())
+        return Opening.of(self.trace())
 
     def hand_out(self) -> EndedChapter:
         """Begins the next chapter, and returns the one that ended. Raises Refused with "book-spent"."""

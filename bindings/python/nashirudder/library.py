@@ -30,14 +30,14 @@ from .opening import Text, Ties
 from .orders import Errand, Order
 from .quick_calls import QuickCalls
 from .records import Arrival, Chapter, Farewell, Look, OpenErrand, Standing
-from .state import State, StateClient, StateErrand, StateRobot
+from .state import Opening, OpeningClient, OpeningErrand, OpeningRobot
 from .told import Account, Judgement, Notice, Report, Taken, TickRecord
 from .turns import OwnTurns
 
 __all__ = [
     "FAR", "JUDGEMENT", "NOWHERE", "ORDER", "STANDING", "Account", "Arrival", "Chapter", "CloseClient", "Code",
     "EndedChapter", "Errand", "Farewell", "Fleet", "Go", "Handle", "Judgement", "Look", "Map", "Notice", "OpenErrand",
-    "OrderRefused", "Refused", "Report", "Standing", "State", "StateClient", "StateErrand", "StateRobot", "Taken",
+    "OrderRefused", "Refused", "Report", "Standing", "Opening", "OpeningClient", "OpeningErrand", "OpeningRobot", "Taken",
     "TickRecord", "Verdict", "Withdraw", "check_step", "distances", "first_bridge", "is_proved", "judge",
 ]
 

@@ -12,7 +12,7 @@ _LAW = [0, 0]
 
 
 @dataclass
-class StateErrand:
+class OpeningErrand:
     """An errand that is accepted and not done: its client, its number among the client's accepted ones, its cell."""
 
     client: int
@@ -21,20 +21,20 @@ class StateErrand:
 
 
 @dataclass
-class StateRobot:
+class OpeningRobot:
     """A robot: where it is, its errands in order, and whether it takes no further ones. `wait` is how many ticks it has
     waited for its next arrival, None exactly if it has no errand.
     """
 
     cell: int
-    errands: List[StateErrand] = field(default_factory=list)
+    errands: List[OpeningErrand] = field(default_factory=list)
     wait: Optional[int] = None
     shut: bool = False
     laws: Tuple[List[int], List[int]] = field(default_factory=lambda: (list(_LAW), list(_LAW)))
 
 
 @dataclass
-class StateClient:
+class OpeningClient:
     """A client: how many of its orders were taken, how many errands accepted, how many notices made, and whether it is
     closed.
     """
@@ -46,7 +46,7 @@ class StateClient:
 
 
 @dataclass
-class State:
+class Opening:
     """How a fleet stands at the beginning of a chapter (docs/TRACE.md, "The keys").
 
     `of` reads one from the text of a chapter, and `trace` writes the text of a chapter without entries, from which
@@ -58,21 +58,21 @@ class State:
     tick: int
     life: int
     queue: int
-    clients: List[StateClient]
-    robots: List[StateRobot]
+    clients: List[OpeningClient]
+    robots: List[OpeningRobot]
     version: int = 2
 
     @classmethod
-    def of(cls, trace: Text) -> "State":
+    def of(cls, trace: Text) -> "Opening":
         """The state at the beginning of this chapter. Raises OutOfRange if the text is no chapter."""
         try:
             told: Dict[str, Any] = json.loads(text_of(trace))
             opening = told["opening"]
             robots = [
-                StateRobot(cell, [StateErrand(*errand) for errand in errands], wait, shut, (arrival, farewell))
+                OpeningRobot(cell, [OpeningErrand(*errand) for errand in errands], wait, shut, (arrival, farewell))
                 for cell, shut, wait, errands, arrival, farewell in opening["robots"]
             ]
-            clients = [StateClient(*client) for client in opening["clients"]]
+            clients = [OpeningClient(*client) for client in opening["clients"]]
             return cls(told["chapter"], opening["tick"], opening["life"], opening["queue"], clients, robots, told["version"])
         except (ValueError, LookupError, TypeError, RecursionError) as error:
             raise OutOfRange(f"this is not the text of a chapter: {error}") from error
@@ -88,7 +88,7 @@ class State:
         told = {"chapter": self.chapter, "entries": [], "opening": opening, "version": self.version}
         return json.dumps(told, separators=(",", ":"))
 
-    def cancel(self, robot: int, place: int = 1) -> StateErrand:
+    def cancel(self, robot: int, place: int = 1) -> OpeningErrand:
         """Takes an errand out of the robot's queue, also the one that it heads for: the one at this place, from 1.
         Returns it. Raises OutOfRange if there is none.
         """

@@ -9,6 +9,7 @@ pub(crate) const HAS_BRIDGE: u32 = 14;
 pub(crate) const WRONG_LENGTH: u32 = 15;
 pub(crate) const WRONG_SIZE: u32 = 34;
 pub(crate) const NO_BRIDGE: u32 = 48;
+pub(crate) const TRACE_SHAPE: u32 = 52;
 
 /// Why a call was refused.
 #[non_exhaustive]

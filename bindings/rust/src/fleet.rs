@@ -8,6 +8,7 @@ use crate::number::{Cell, Client, RobotId};
 use crate::order::{Order, Verdict};
 use crate::raw::{self, Handle, RawArrival, RawJudgement, RawNote, RawOrder};
 use crate::records::{Arrival, Notice, Report, Shown};
+use crate::state::Opening;
 use std::fmt;
 
 /// A fleet.
@@ -229,6 +230,11 @@ impl Fleet {
     /// The trace of the present chapter.
     pub fn trace(&self) -> Result<String, Error> {
         present_trace(&self.handle)
+    }
+
+    /// How the fleet stood at the beginning of the present chapter; after `next_chapter` or `hand_out`, how it stands now.
+    pub fn opening(&self) -> Result<Opening, Error> {
+        Opening::of(&self.trace()?)
     }
 
     /// Begins the next chapter, and hands out the one that ended.

@@ -32,6 +32,7 @@ mod order;
 mod raw;
 mod records;
 mod setup;
+mod state;
 mod views;
 
 pub use chapter::{Chapter, FullChapter, Kept};
@@ -44,3 +45,4 @@ pub use number::{Cell, Client, RobotId};
 pub use order::{Order, Verdict};
 pub use records::{Account, Arrival, Notice, OpenErrand, Report, Shown, Standing, State};
 pub use setup::{is_proved, Robot, Setup};
+pub use state::{Opening, OpeningClient, OpeningErrand, OpeningRobot};

@@ -3,7 +3,7 @@
 import unittest
 
 from nashirudder import OutOfRange, Refused
-from nashirudder.library import Handle, Map, State, StateRobot, judge
+from nashirudder.library import Handle, Map, Opening, OpeningRobot, judge
 
 RING = "type octile\nheight 3\nwidth 4\nmap\n....\n.@..\n....\n"
 WALL = RING.replace(".@..", ".@@.")
@@ -34,7 +34,7 @@ class StateTest(unittest.TestCase):
         self.assertIn(sentence, str(refused.exception))
 
     def test_going_back(self):
-        self.assertEqual(State.of(self.state.trace()), self.state)
+        self.assertEqual(Opening.of(self.state.trace()), self.state)
         self.assertEqual(self.state.trace(), self.fleet.trace())
         self.fleet.next_chapter()
         onwards = play(self.fleet)
@@ -49,7 +49,7 @@ class StateTest(unittest.TestCase):
         self.assertEqual([(one.client, one.number, one.cell) for one in state.robots[0].errands], [(0, 1, 11), (0, 2, 2)])
         self.assertEqual(state.cancel(0).number, 1)
         state.move(1, 4)
-        state.robots.append(StateRobot(cell=10))
+        state.robots.append(OpeningRobot(cell=10))
         with Handle.reopen(RING, state.trace()) as fleet:
             self.assertEqual((list(fleet.placement()), fleet.clock(), fleet.robots()), ([1, 4, 10], 1, 3))
             self.assertEqual([one.cell for one in fleet.queue(0)], [2])
@@ -75,7 +75,7 @@ class StateTest(unittest.TestCase):
 
     def test_what_is_no_state(self):
         for text in ("", "{}", "[1]", '{"opening":{"robots":[[1]]}}', self.fleet.trace()[:-1]):
-            self.assertRaises(OutOfRange, State.of, text)
+            self.assertRaises(OutOfRange, Opening.of, text)
         for call in (lambda: self.state.cancel(0, 3), lambda: self.state.cancel(2), lambda: self.state.move(2, 0)):
             self.assertRaises(OutOfRange, call)
 

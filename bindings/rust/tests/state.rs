@@ -1,0 +1,74 @@
+//! The state of a fleet as a value: kept, gone back to, changed, and gone on from.
+
+use nashirudder::{Code, Error, Fleet, Opening, OpeningErrand, OpeningRobot, Robot, Setup};
+
+const RING: &[u8] = b"type octile\nheight 3\nwidth 4\nmap\n....\n.@..\n....\n";
+const WALL: &[u8] = b"type octile\nheight 3\nwidth 4\nmap\n....\n.@@.\n....\n";
+
+/// Two robots under way, in a chapter that has no entries yet.
+fn begun() -> Result<Fleet, Error> {
+    let mut fleet = Fleet::open(RING, &[Robot::at(0), Robot::at(3)], &Setup::new(1))?;
+    for (robot, cell) in [(0, 11), (0, 2), (1, 8)] {
+        assert_eq!(fleet.go(0, robot, cell)?.name(), "accepted");
+    }
+    fleet.tick()?;
+    assert_eq!(fleet.opening()?.tick, 0);
+    fleet.next_chapter()?;
+    Ok(fleet)
+}
+
+fn play(fleet: &mut Fleet) -> Result<String, Error> {
+    for tick in 0..30 {
+        let _ = fleet.go(0, tick % 2, 7 * tick % 12)?;
+        fleet.tick()?;
+        fleet.give_all(0)?;
+    }
+    fleet.trace()
+}
+
+#[test]
+fn goes_back() -> Result<(), Error> {
+    let mut fleet = begun()?;
+    let state = fleet.opening()?;
+    assert_eq!((state.trace(), Opening::of(&state.trace())?), (fleet.trace()?, state.clone()));
+    fleet.next_chapter()?;
+    let onwards = play(&mut fleet)?;
+    assert_eq!(Opening::of(&onwards)?.robots, state.robots);
+    let mut again = Fleet::reopen(RING, &state.trace(), &[Robot::at(0); 2], &Setup::new(1))?;
+    assert_eq!(play(&mut again)?, onwards);
+    Ok(())
+}
+
+#[test]
+fn changes() -> Result<(), Error> {
+    let mut state = begun()?.opening()?;
+    assert_eq!((state.tick, state.chapter, state.queue, state.robots[0].cell, state.robots[1].cell), (1, 1, 16, 1, 7));
+    let first = OpeningErrand { client: 0, number: 1, cell: 11 };
+    assert_eq!((state.cancel(0, 1), state.robots[0].wait, state.cancel(0, 2), state.cancel(0, 0), state.cancel(2, 1)), (Some(first), Some(0), None, None, None));
+    state.robots[1].move_to(4);
+    state.robots.push(OpeningRobot::at(10));
+    let mut fleet = Fleet::reopen(WALL, &state.trace(), &[Robot::at(0); 3], &Setup::new(1))?;
+    assert_eq!((fleet.placement()?, fleet.queue(0)?.len(), fleet.clock()?), (vec![1, 4, 10], 1, 1));
+    while !fleet.is_idle()? {
+        fleet.tick()?;
+    }
+    assert_eq!(fleet.placement()?[..2], [2, 8]);
+    state.robots.remove(0);
+    assert_eq!(Fleet::reopen(RING, &state.trace(), &[Robot::at(0); 2], &Setup::new(1))?.placement()?, [4, 10]);
+    state.robots[1].move_to(4);
+    let refused = Fleet::reopen(RING, &state.trace(), &[Robot::at(0); 2], &Setup::new(1)).expect_err("two on one cell");
+    assert_eq!((refused.code, refused.numbers), (Code::ChapterIllegal, (0, 1)));
+    Ok(())
+}
+
+#[test]
+fn refuses_what_is_no_chapter() -> Result<(), Error> {
+    let text = begun()?.trace()?;
+    for end in 0..text.len() {
+        assert_eq!(Opening::of(&text[..end]).expect_err("cut").code, Code::TraceShape);
+    }
+    for wrong in [format!("{text} "), text.replace("false", "0"), text.replace("null", "none"), text.replace("\"tick\":1", "\"tick\":99999999999999999999")] {
+        assert!(wrong == text || Opening::of(&wrong).is_err(), "{wrong}");
+    }
+    Ok(())
+}
