@@ -129,7 +129,8 @@ enum class State : std::uint32_t {
     free = NASHIRUDDER_FREE, busy = NASHIRUDDER_BUSY, shut = NASHIRUDDER_SHUT,
 };
 
-/* The library's structs have numbers; each is compared with the name of its enum class. */
+/* The library's structs have numbers; each is compared with the name of its enum class, and `switch (Verdict(told.verdict))`
+   has names in its cases. */
 inline bool operator==(std::uint32_t told, Code code) { return told == static_cast<std::uint32_t>(code); }
 inline bool operator==(std::uint32_t told, Verdict verdict) { return told == static_cast<std::uint32_t>(verdict); }
 inline bool operator==(std::uint32_t told, State state) { return told == static_cast<std::uint32_t>(state); }

@@ -1,11 +1,12 @@
 """What both classes named `Fleet` have: the same names, arguments and exceptions."""
 
 import abc
-from typing import TYPE_CHECKING, Callable, List, Optional, TypeVar, Union
+import ctypes
+from typing import TYPE_CHECKING, Any, Callable, List, Optional, Sequence, TypeVar, Union, overload
 
-from .arrays import as_cells
+from .arrays import as_cells, room_in
 from .closing import Closing
-from .errors import FileFailed, NoMemory, Refused
+from .errors import FileFailed, NoMemory, OutOfRange, Refused
 from .names import Verdict
 from .orders import Errand, Ledger, Order, need_own
 from .ranges import whole_number
@@ -16,6 +17,8 @@ if TYPE_CHECKING:
     from .arrays import Cells
 
 T = TypeVar("T")
+# An array of the caller's
+R = TypeVar("R")
 
 MOST_TICKS = 1_000_000
 # How many ticks a program is asked for at once: after these an interrupted call stops.
@@ -132,6 +135,22 @@ class AnyFleet(Closing):
         errand = Errand(self, whole_number("client", client), whole_number("robot", robot), whole_number("cell", cell))
         return self._in_turn(lambda: self._go(errand))
 
+    def go_many(self, robots: Sequence[int], cells: Sequence[int], client: int = 0) -> List[Errand]:
+        """Asks each of these robots to come to the cell at the same place of the other list, one after the other, each as
+        by `go`. Lists, or arrays. Returns the errands.
+
+        Raises as `go`, and OutOfRange if one list is longer, before anything is posted; after Refused the orders before
+        the refused one stand.
+        """
+        if len(robots) != len(cells):
+            raise OutOfRange(f"there are {len(robots)} robots and {len(cells)} cells")
+        number = whole_number("client", client)
+        errands = [
+            Errand(self, number, whole_number("robot", robot), whole_number("cell", cell))
+            for robot, cell in zip(robots, cells)
+        ]
+        return self._in_turn(lambda: [self._go(errand) for errand in errands])
+
     def _carry_out(self, order: Order, wanted: Verdict) -> None:
         """Posts an order that is judged at once, and raises OrderRefused if its verdict is another one."""
         self._post(order)
@@ -217,11 +236,24 @@ class AnyFleet(Closing):
         """Where the robots stand after the last tick, by the robot's number: a list."""
         return list(self._cells)
 
+    @overload
     def placement(self) -> "Cells":
+        ...
+
+    @overload
+    def placement(self, out: R) -> R:
+        ...
+
+    def placement(self, out: Any = None) -> Any:
         """What `cells` has, as an array of `numpy.uint32` with one item for each robot; as a list if NumPy is not
-        there.
+        there. With `out`, an array of your own of unsigned numbers of 32 bits with one place for each robot, they are
+        written there, and it is returned.
         """
-        return as_cells(self._cells)
+        if out is None:
+            return as_cells(self._cells)
+        cells = self._cells
+        room_in(out, ctypes.c_uint32, len(cells))[:] = cells
+        return out
 
     def look(self) -> Look:
         """How the fleet stands. It changes nothing."""

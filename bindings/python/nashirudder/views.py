@@ -3,7 +3,7 @@
 import ctypes
 import threading
 from ctypes import byref
-from typing import TYPE_CHECKING, Any, Dict, List, Optional
+from typing import TYPE_CHECKING, Any, Dict, List, Optional, TypeVar, overload
 
 from .arrays import as_cells, room_in
 from .calls import CAccount, CErrand, CFleet, CNote, CSetup, CStanding, check
@@ -14,7 +14,10 @@ from .texts import text_by
 from .told import Account, Notice, errand_of, notice_of, standing_of
 
 if TYPE_CHECKING:
-    from .arrays import Cells, Room
+    from .arrays import Cells
+
+# An array of the caller's
+R = TypeVar("R")
 
 
 class Views:
@@ -45,7 +48,15 @@ class Views:
         check(self._call(name, *arguments, byref(told)))
         return int(told.value)
 
-    def placement(self, out: "Optional[Room]" = None) -> "Cells":
+    @overload
+    def placement(self) -> "Cells":
+        ...
+
+    @overload
+    def placement(self, out: R) -> R:
+        ...
+
+    def placement(self, out: Any = None) -> Any:
         """Each robot's cell, by the robot's number: an array of `numpy.uint32`, or a list if NumPy is not there.
 
         With `out`, an array of your own of unsigned numbers of 32 bits with one place for each robot (of NumPy, or
@@ -61,7 +72,7 @@ class Views:
         check(self._call("standings", told, self._count))
         return [standing_of(one) for one in told]
 
-    def standings_into(self, out: "Room") -> "Room":
+    def standings_into(self, out: R) -> R:
         """The same, into an array of your own with one place for each robot, without a copy: of NumPy with
         `dtype=STANDING`, or any other of as many bytes. Returns it.
 

@@ -1,5 +1,6 @@
 """Fleets in asyncio, and maps by their text: the same with both classes. FLEET names the built program."""
 
+import array
 import asyncio
 import os
 import pathlib
@@ -106,6 +107,23 @@ class AwaitsTest(unittest.TestCase):
                 self.assertEqual((list(fleet.placement()), map.floor, library.first_bridge(path)), ([0], 8, None))
             with self.assertRaises(nashirudder.FileFailed):
                 library.Handle(path / "none", [0])
+
+    def test_lists_of_goals_and_arrays_of_cells(self):
+        for kind, words in KINDS:
+            with self.subTest(kind.__module__), kind(text=RING, robots=[0, 8], clients=2, **words) as fleet:
+                errands = fleet.go_many([0, 1, 1], array.array("I", [2, 4, 6]), client=1)
+                self.assertEqual([one.state for one in errands], ["accepted", "refused", "accepted"])
+                self.assertEqual([(one.client, one.robot, one.cell) for one in errands], [(1, 0, 2), (1, 1, 4), (1, 1, 6)])
+                self.assertRaises(nashirudder.OutOfRange, fleet.go_many, [0], [1, 2])
+                self.assertRaises(nashirudder.OutOfRange, fleet.go_many, [0, -1], [1, 2])
+                with self.assertRaises(Refused):
+                    fleet.go_many([0], [1], client=2)
+                cells = array.array("I", [9, 9])
+                fleet.tick()
+                self.assertIs(fleet.placement(out=cells), cells)
+                self.assertEqual(list(cells), fleet.cells)
+                self.assertRaises(nashirudder.OutOfRange, fleet.placement, out=array.array("I", [9]))
+                self.assertEqual(len(fleet.open_errands(1)), 2)
 
     def test_a_limit_of_zero_fits_the_robots(self):
         rows = "....................\n" * 30
