@@ -198,6 +198,24 @@ class Calls(unittest.TestCase):
         self.assertEqual(refused.exception.name, "limits-differ")
         self.assertIn("the chapter has `queue` 3 and `life` 1099511627776", str(refused.exception))
 
+    def test_the_library_sees_to_nulls_itself(self):
+        # By another way than the header: nothing stands before the library here.
+        library, fleet, setup = calls.load(), calls.CFleet(), calls.CSetup()
+        number, text = ctypes.c_uint64(7), RING.encode()
+        self.assertEqual(library.nashirudder_clock(None, ctypes.byref(number)), Code.NULL_POINTER)
+        self.assertEqual(library.nashirudder_clock(ctypes.byref(fleet), None), Code.NULL_POINTER)
+        self.assertEqual(library.nashirudder_open(text, len(text), None, 0, None, ctypes.byref(fleet), None), Code.NULL_POINTER)
+        self.assertEqual(library.nashirudder_open(None, 4, None, 0, ctypes.byref(setup), ctypes.byref(fleet), None), Code.NULL_POINTER)
+        library.nashirudder_setup_default(1, ctypes.byref(setup))
+        self.assertEqual((setup.mailbox, setup.lane, setup.outlet, setup.queue), (0, 0, 0, 16))
+        robot = calls.CRobot(0)
+        opened = library.nashirudder_open(text, len(text), ctypes.byref(robot), 1, ctypes.byref(setup), ctypes.byref(fleet), None)
+        self.assertEqual((opened, library.nashirudder_tick(ctypes.byref(fleet), None)), (Code.DONE, Code.DONE))
+        library.nashirudder_close(None)
+        library.nashirudder_close(ctypes.byref(fleet))
+        library.nashirudder_setup_default(1, None)
+        self.assertEqual(number.value, 7)
+
     def test_a_class_below_keeps_its_name(self):
         class Mine(Handle):
             pass
