@@ -47,8 +47,11 @@ class StateTest(unittest.TestCase):
         state = self.state
         self.assertEqual(([one.cell for one in state.robots], state.tick, state.queue, state.chapter), ([1, 7], 1, 5, 1))
         self.assertEqual([(one.client, one.number, one.cell) for one in state.robots[0].errands], [(0, 1, 11), (0, 2, 2)])
-        self.assertEqual(state.cancel(0).number, 1)
+        self.assertEqual((state.robots[0].wait, state.cancel(0).number, state.robots[0].wait), (1, 1, 0))
         state.move(1, 4)
+        self.assertEqual((state.robots[1].cell, state.robots[1].wait), (4, 0))
+        last = Opening.of(state.trace())
+        self.assertEqual((last.cancel(1).cell, last.robots[1].wait), (8, None))
         state.robots.append(OpeningRobot(cell=10))
         with Handle.reopen(RING, state.trace()) as fleet:
             self.assertEqual((list(fleet.placement()), fleet.clock(), fleet.robots()), ([1, 4, 10], 1, 3))
