@@ -182,15 +182,17 @@ class Fleet(AnyFleet):
         return [client for client, lane in self._lanes.items() if lane]
 
     def _make_ticks(self, count: int) -> None:
+        arrived, left = self._arrivals, self._farewells
         for _ in range(count):
             if self._turns.stops():
                 return
             cells, arrivals, farewells = self._entered(self._quick.tick)
-            self._cells = cells
+            # A signal handler may have called `tick` in between: its arrivals are not those of this call.
+            self._cells, self._arrivals, self._farewells = cells, arrived, left
             if farewells:
-                self._farewells += [Farewell(robot, 0) for robot in farewells]
+                left += [Farewell(robot, 0) for robot in farewells]
             if arrivals:
-                self._arrivals += arrivals
+                arrived += arrivals
                 for arrival in arrivals:
                     self._ledger.arrived(arrival)
                 for client in {arrival.client for arrival in arrivals}:

@@ -57,6 +57,22 @@ class TurnsTest(unittest.TestCase):
             self.assertEqual(fleet.look().tick % 20_000, 0)
             self.assertIs(signal.getsignal(signal.SIGALRM), signal.SIG_IGN)
 
+    def test_a_handler_that_ticks_the_fleet(self):
+        told = []
+        with Fleet(text=RING, robots=[0, 8]) as fleet:
+            def alarm(*_):
+                told.append((fleet.tick(), fleet.arrivals))
+
+            self.handler(signal.SIGALRM, alarm)
+            begun, calls = time.monotonic(), 0
+            while not told and time.monotonic() < begun + 30:
+                calls += 1
+                errand = fleet.go(0, 2 if fleet.cells[0] != 2 else 0)
+                signal.setitimer(signal.ITIMER_REAL, 0.05)
+                fleet.tick(20_000)
+                self.assertEqual([one.number for one in fleet.arrivals], [errand.accepted()])
+            self.assertEqual((told[0][1], fleet.look().tick), ([], 20_000 * calls + 1))
+
     def test_threads_take_turns(self):
         with Fleet(text=RING, robots=[0, 8]) as fleet:
             threads = [threading.Thread(target=lambda: [fleet.tick() for _ in range(200)]) for _ in range(4)]
