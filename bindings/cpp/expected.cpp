@@ -87,6 +87,8 @@ static void keepers() {
     CHECK(fleet.try_tick().error().code == Code::chapter_full && fleet.trace() == first && fleet.clock() == 1);
     is_full = false;
     CHECK(fleet.try_tick()->tick == 2 && kept == first);
+    is_full = true;
+    CHECK(fleet.try_tick().value_or(Report{7, 0, 0}).tick == 7 && fleet.try_trace().value_or("") == fleet.trace());
 }
 
 /* Notices and floor cells, by loops. */

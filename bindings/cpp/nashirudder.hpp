@@ -237,6 +237,7 @@ public:
     [[nodiscard]] T &&operator*() && { return std::move(*held); }
     [[nodiscard]] T *operator->() { return &*held; }
     [[nodiscard]] const T *operator->() const { return &*held; }
+    template <typename Other> [[nodiscard]] T value_or(Other &&other) const & { return held.value_or(std::forward<Other>(other)); }
     [[nodiscard]] const Fault &error() const { return fault; }
 
 private:

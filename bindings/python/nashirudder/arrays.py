@@ -9,10 +9,14 @@ from .errors import OutOfRange
 from .ranges import whole_number
 
 if TYPE_CHECKING:
+    import array
+
     import numpy
     from numpy.typing import NDArray
 
     Cells = Union[List[int], "NDArray[numpy.uint32]"]
+    # Numbers of a caller: a list, or an array with one dimension
+    Numbers = Union[Sequence[int], "NDArray[Any]", "array.array[int]"]
     # An array that can be written, of a caller
     Room = Any
 
@@ -64,7 +68,7 @@ def room_in(out: Any, kind: Any, count: int) -> Any:
         raise OutOfRange(f"this is no array that can be written: {error}") from error
 
 
-def c_cells(what: str, items: Sequence[int]) -> Any:
+def c_cells(what: str, items: "Numbers") -> Any:
     """Cells as an array for C, which is never empty. Anything that NumPy, `array` or a list holds will do, if it has
     one dimension.
 

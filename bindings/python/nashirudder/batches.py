@@ -13,7 +13,7 @@ from .ranges import whole_number
 from .told import Taken, judgement_of
 
 if TYPE_CHECKING:
-    from .arrays import Room
+    from .arrays import Numbers, Room
 
 # What a list of orders ended with
 Ending = Union[Refused, NoMemory, None]
@@ -57,7 +57,7 @@ class Batches:
         asked, told = room_in(orders, COrder, length), room_in(judgements, CJudgement, length)
         return self._taken(asked, told, length)
 
-    def go_many(self, robots: Sequence[int], cells: Sequence[int], client: int = 0) -> Taken:
+    def go_many(self, robots: "Numbers", cells: "Numbers", client: int = 0) -> Taken:
         """The client orders each of these robots to the cell at the same place of the other list, one after the other.
         Lists, or arrays of `numpy.uint32`. Returns and raises as `take_many`, and OutOfRange if one list is longer.
         """

@@ -2,7 +2,7 @@
 
 import abc
 import ctypes
-from typing import TYPE_CHECKING, Any, Callable, List, Optional, Sequence, TypeVar, Union, overload
+from typing import TYPE_CHECKING, Any, Callable, List, Optional, TypeVar, Union, overload
 
 from .arrays import as_cells, room_in
 from .closing import Closing
@@ -14,7 +14,7 @@ from .records import Arrival, Chapter, Farewell, Look, OpenErrand, Standing
 from .turns import OwnTurns, Turns
 
 if TYPE_CHECKING:
-    from .arrays import Cells
+    from .arrays import Cells, Numbers
 
 T = TypeVar("T")
 # An array of the caller's
@@ -135,7 +135,7 @@ class AnyFleet(Closing):
         errand = Errand(self, whole_number("client", client), whole_number("robot", robot), whole_number("cell", cell))
         return self._in_turn(lambda: self._go(errand))
 
-    def go_many(self, robots: Sequence[int], cells: Sequence[int], client: int = 0) -> List[Errand]:
+    def go_many(self, robots: "Numbers", cells: "Numbers", client: int = 0) -> List[Errand]:
         """Asks each of these robots to come to the cell at the same place of the other list, one after the other, each as
         by `go`. Lists, or arrays. Returns the errands.
 

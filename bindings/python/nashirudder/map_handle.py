@@ -3,7 +3,7 @@
 import ctypes
 import threading
 from ctypes import byref
-from typing import TYPE_CHECKING, Any, Optional, Sequence, Tuple, TypeVar
+from typing import TYPE_CHECKING, Any, Optional, Tuple, TypeVar
 
 from .arrays import as_cells, c_cells
 from .calls import CEdge, CFault, CMap, CShape, check, load
@@ -14,7 +14,7 @@ from .ranges import whole_number
 from .uncopied import Uncopied
 
 if TYPE_CHECKING:
-    from .arrays import Cells
+    from .arrays import Cells, Numbers
 
 
 M = TypeVar("M", bound="Map")
@@ -77,7 +77,7 @@ class Map(Uncopied):
         check(self._call("map_joins", whole_number("a cell", one), whole_number("a cell", other), byref(told)))
         return bool(told.value)
 
-    def check_step(self, before: Sequence[int], after: Sequence[int]) -> None:
+    def check_step(self, before: "Numbers", after: "Numbers") -> None:
         """As the function `check_step`, but that it raises no fault of the map."""
         fault = CFault()
         cells = c_cells("a cell before the step", before), c_cells("a cell after the step", after)

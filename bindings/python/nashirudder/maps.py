@@ -4,7 +4,7 @@ one.
 
 import ctypes
 from ctypes import byref
-from typing import TYPE_CHECKING, Optional, Sequence, Tuple
+from typing import TYPE_CHECKING, Optional, Tuple
 
 from .arrays import as_cells, c_cells
 from .calls import CEdge, CFault, check, load
@@ -14,9 +14,9 @@ from .opening import MapText, Text, map_text, sides_of, text_of
 from .ranges import whole_number
 
 if TYPE_CHECKING:
-    from .arrays import Cells
+    from .arrays import Cells, Numbers
 
-def check_step(map: MapText, before: Sequence[int], after: Sequence[int], *, built: Optional[Place] = None) -> None:
+def check_step(map: MapText, before: "Numbers", after: "Numbers", *, built: Optional[Place] = None) -> None:
     """Returns if the step is free of conflicts: each robot stays or crosses an edge, no two come to one cell, and no
     two exchange their cells.
 
