@@ -28,7 +28,7 @@ use Rattle.fleet_journal.proofs.WholeLines.{HasNoFeed, line-then, no-line}
 
 -- ---- any lines
 
--- so many bytes of lines have the first lines whole, and no more
+-- the first `k` bytes of lines have the first lines whole, and no more
 record FirstLines (lines : List (List ℕ)) (k : ℕ) : Type 0 where
   count : ℕ
   few : count ≤ length lines

@@ -9,7 +9,7 @@ use Rattle.fleet_journal.specs.Text.{journal_text}
 abbrev pub cut_after : Trace Global → ℕ → Trace Global
 cut_after t n = record t { history = record t.history { entries = take n t.history.entries } }
 
--- so many bytes of the journal's text tell the first entries: all those whose lines are whole
+-- the first bytes of the journal's text tell the first entries: all those whose lines are whole
 pub record IsCut (t : Trace Global) (bytes : ℕ) : Type 0 where
   pub entries : ℕ
   pub few : entries ≤ length t.history.entries

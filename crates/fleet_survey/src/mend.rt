@@ -173,7 +173,7 @@ fn add_walls(
     Ok(())
 }
 
-/// Walls of a map that, opened, make cells roomy for so many robots, and how many cells are not roomy then. They are
+/// Walls of a map that, opened, make cells roomy for this many robots, and how many cells are not roomy then. They are
 /// found by a rule of thumb: other walls may do with fewer, or make more cells roomy. `AllocError` if memory runs out.
 pub fn mended(alloc: Global, grid: &Grid, robots: u32) -> Result<Mending, AllocError>
     ensures { IfOk result (IsMending grid.now robots) }

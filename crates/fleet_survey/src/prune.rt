@@ -57,7 +57,7 @@ pub(crate) fn marks_of(
     Ok(marks)
 }
 
-/// Takes the marks from cells that no map has which is fit for so many robots, as long as that can be seen from their
+/// Takes the marks from cells that no map has which is fit for this many robots, as long as that can be seen from their
 /// neighbours. For one robot all maps are fit.
 #[tactic(auto, using(crate::proofs::Prunes::peeled_for, crate::proofs::Prunes::not_peeled))]
 fn peel_for(grid: &Grid, robots: u32, marks: &mut [bool])
@@ -68,7 +68,7 @@ fn peel_for(grid: &Grid, robots: u32, marks: &mut [bool])
     }
 }
 
-/// The map without some cells, which no map has that is fit for so many robots, and without more such cells.
+/// The map without some cells, which no map has that is fit for this many robots, and without more such cells.
 fn without(
     alloc: Global,
     grid: &Grid,
@@ -83,7 +83,7 @@ fn without(
     map_of(alloc, grid, &marks)
 }
 
-/// The map without the cells that are not roomy for so many robots, nor those that are not roomy without them, and so
+/// The map without the cells that are not roomy for this many robots, nor those that are not roomy without them, and so
 /// on: all its floor cells are roomy. A map within it stays, if all its cells are roomy and each of its parts has as
 /// many cells as there are robots. `AllocError` if memory runs out.
 pub fn pruned(alloc: Global, grid: &Grid, robots: u32) -> Result<Grid, AllocError>
