@@ -1,0 +1,5 @@
+pub mod Views
+pub mod Ticking
+pub mod Pausing
+pub mod Keeping
+pub mod Arrivals
