@@ -14,13 +14,12 @@ ghost use Rattle.fleet_history.specs.History.{History, start, after, with_entrie
 ghost use Rattle.fleet_history.specs.Legal.{IsLegal, IsInOrder, Fits};
 ghost use Rattle.fleet_history.specs.Next.{next_opening};
 ghost use Rattle.fleet_history.specs.Waits.{wait};
-ghost use Rattle.fleet_bound.specs.Onward.{onward};
 ghost use Rattle.fleet_bound.specs.Reach.{reach};
 ghost use Rattle.turns_law.specs.Turns.{Turns, AreTurns};
 ghost use Rattle.turns_law.specs.Fleet.{IsFleet, IsTick, IsPause};
 ghost use Rattle.turns_history.specs.Fleets.{TurnLimits, AreTurnsFor, IsEarly, IsEntryInTurns, IsPlannedInTurns, as_fleet, limits_by};
 ghost use Rattle.turns_history.specs.Kept.{AreChaptersInTurns, AreServedBelow, IsLegalInTurns, KeepsTurnsAfter};
-ghost use Rattle.turns_history.specs.Arriving.{GoesOnInTurns, ServedArrive};
+ghost use Rattle.turns_history.specs.Arriving.{FrontsArrive, QueuesArrive};
 
 /// A legal history is a fleet as the laws of `turns_law` have it: each robot waits exactly while it has a front errand, to which a walk
 /// leads. A tick that is planned in turns is a tick of that fleet. A take is a pause: who has a front errand keeps it, since a withdrawal
@@ -68,8 +67,11 @@ pub fn served_waits_are_bounded<A>()
 {}
 
 /// Whatever the waits were, the front errand of a robot arrives, if it is served, while a history goes on by robots times one turn ticks
-/// that are planned in turns.
+/// that are planned in turns. An errand after it arrives, or is withdrawn, within as many ticks for each place in the queue up to its own,
+/// if it and all before it are served.
 pub fn served_errands_arrive<A>()
-    ensures { (m : Floor) (t : Turns) (l : TurnLimits) (laws : List TieLaw) (h : History A) → AreTurnsFor m t l (robots h) →
-        ServedArrive m t laws (robots h * l.turn) h }
+    ensures fronts { (m : Floor) (t : Turns) (l : TurnLimits) (laws : List TieLaw) (h : History A) → AreTurnsFor m t l (robots h) →
+        FrontsArrive m t laws (robots h * l.turn) h }
+    ensures queues { (m : Floor) (t : Turns) (l : TurnLimits) (laws : List TieLaw) (h : History A) → AreTurnsFor m t l (robots h) →
+        QueuesArrive m t laws (robots h * l.turn) h }
 {}
