@@ -1,0 +1,3 @@
+-- What only proofs and private functions use.
+pub mod Turning
+pub mod Kinds
