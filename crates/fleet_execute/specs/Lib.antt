@@ -1,3 +1,6 @@
 pub mod Goes
 pub mod Text
 pub mod Answers
+pub mod Heard
+pub mod Dialogue
+pub mod inside

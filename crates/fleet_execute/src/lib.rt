@@ -5,10 +5,13 @@ mod chunks;
 mod fault;
 mod going;
 mod heard;
+mod hold;
+mod line;
 mod plan;
 mod print;
 
-pub use fault::TurnFault;
+pub use fault::{HoldFault, TurnFault};
 pub use going::{is_done, turn};
 pub use heard::{Heard, hear};
+pub use hold::hold;
 pub use plan::Plan;
