@@ -101,7 +101,7 @@ class CExecution(ctypes.Structure):
 
 
 class CMove(ctypes.Structure):
-    _fields_ = [("tick", c_uint64), ("robot", c_uint32), ("from_", c_uint32), ("to", c_uint32)]
+    _fields_ = [("tick", c_uint64), ("robot", c_uint32), ("from", c_uint32), ("to", c_uint32)]
 
 
 class CWhereabouts(ctypes.Structure):

@@ -60,7 +60,7 @@ class Progress:
 
 
 def _move_of(told: CMove) -> Move:
-    return Move(int(told.robot), int(told.from_), int(told.to), int(told.tick))
+    return Move(int(told.robot), int(getattr(told, "from")), int(told.to), int(told.tick))
 
 
 class Execution(Uncopied):
