@@ -1,6 +1,3 @@
 pub mod Goes
 pub mod Text
 pub mod Answers
-pub mod Heard
-pub mod Dialogue
-pub mod inside

@@ -5,13 +5,10 @@ mod chunks;
 mod fault;
 mod going;
 mod heard;
-mod hold;
-mod line;
 mod plan;
 mod print;
 
-pub use fault::{HoldFault, TurnFault};
+pub use fault::TurnFault;
 pub use going::{is_done, turn};
 pub use heard::{Heard, hear};
-pub use hold::hold;
 pub use plan::Plan;
