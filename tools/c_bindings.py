@@ -13,13 +13,14 @@ BINDINGS = TOP / "bindings"
 NUMBERS = {"u8": "uint8_t", "u32": "uint32_t", "u64": "uint64_t", "usize": "size_t", "bool": "bool"}
 STRUCTS = {"Handle": "fleet", "Setup": "setup", "Robot": "robot", "Fault": "fault", "Judgement": "judgement", "Report": "report",
            "Note": "note", "Edge": "edge", "Request": "order", "Landing": "arrival", "MapHandle": "map", "MapShape": "shape",
-           "Chore": "errand", "Standing": "standing", "Account": "account", "ChapterHandle": "chapter"}
+           "Chore": "errand", "Standing": "standing", "Account": "account", "ChapterHandle": "chapter",
+           "ExecutionHandle": "execution", "Motion": "move", "Whereabouts": "whereabouts", "Progress": "progress"}
 # What the header has in the place of a number of 32 bits
 ENUMS = {("Fault", "code"): "code", ("Judgement", "verdict"): "verdict", ("Note", "verdict"): "verdict", ("Request", "kind"): "kind",
          ("Standing", "state"): "state"}
 NO_CODE = ("nashirudder_version",)
 # What handles are made of
-OWNERS = ("Owned", "Handle", "OwnedMap", "MapHandle", "OwnedChapter", "ChapterHandle")
+OWNERS = ("Owned", "Handle", "OwnedMap", "MapHandle", "OwnedChapter", "ChapterHandle", "OwnedExecution", "ExecutionHandle")
 
 
 say = processes.Voice("the bindings")
@@ -68,14 +69,14 @@ def checked():
 def lookers():
     """The exports to which bindings/c/checked.c gives a copy of the handle: so a program gives them a const one."""
     bodies = re.findall(r"^nashirudder_code (nashirudder_\w+)\((.*?)\) \{\n(.*?)^\}$", (BINDINGS / "c" / "checked.c").read_text(), re.M | re.S)
-    return {name for name, parameters, body in bodies if re.match(r"const nashirudder_(fleet|map|chapter) \*(\w+)", parameters) and "(&seen" in body}
+    return {name for name, parameters, body in bodies if re.match(r"const nashirudder_(fleet|map|chapter|execution) \*(\w+)", parameters) and "(&seen" in body}
 
 
 def declarations():
     """The declarations of the header: the exports', but that calls which only look take the handle as const."""
     found = exports()
     for name in lookers():
-        found[name] = re.sub(r"\((nashirudder_(?:fleet|map|chapter) \*)", r"(const \1", found[name], count=1)
+        found[name] = re.sub(r"\((nashirudder_(?:fleet|map|chapter|execution) \*)", r"(const \1", found[name], count=1)
     return found
 
 
@@ -89,7 +90,7 @@ def structs():
     found = {STRUCTS[name]: [f"nashirudder_{ENUMS[name, field[0]]} {field[0]}" if (name, field[0]) in ENUMS else c_field(*field) for field in fields]
              for name, (_, fields) in CROSSING.items() if name not in OWNERS}
     # A handle's owner is a pointer and an allocator, which takes no bytes.
-    found["fleet"] = found["map"] = found["chapter"] = ["void *at", "bool is_open"]
+    found["fleet"] = found["map"] = found["chapter"] = found["execution"] = ["void *at", "bool is_open"]
     return {f"nashirudder_{name}": fields for name, fields in found.items()}
 
 
@@ -130,6 +131,7 @@ def compare_header():
     same("verdict", {"NO_VERDICT": 0, **constants("verdicts")}, numbers["verdict"])
     same("kind", constants("request"), numbers["kind"])
     same("state", {name: number for name, number in constants("standing").items() if name != "NOWHERE"}, numbers["state"])
+    same("clearance", constants("executions"), numbers["clearance"])
     if set(numbers["code"].values()) & set(numbers["verdict"].values()) != {0}:
         fail("a verdict has the number of a code")
     compare_version(text)
@@ -137,7 +139,7 @@ def compare_header():
 
 
 # The structs of bindings/rust that cross, where they are not `Raw` and the word of the header
-RUST = {"Handle": "Handle", "MapHandle": "Handle", "ChapterHandle": "Handle", "Robot": "crate::Robot", "Report": "crate::Report"}
+RUST = {"Handle": "Handle", "MapHandle": "Handle", "ChapterHandle": "Handle", "ExecutionHandle": "Handle", "Robot": "crate::Robot", "Report": "crate::Report"}
 
 
 def rust_text():

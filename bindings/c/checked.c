@@ -66,6 +66,13 @@ RAW(map_check_step);
 RAW(map_first_bridge);
 RAW(map_distances);
 RAW(map_unroomy);
+RAW(execution_open);
+RAW(execution_close);
+RAW(execution_plan);
+RAW(execution_begin);
+RAW(execution_reached);
+RAW(execution_whereabouts);
+RAW(execution_progress);
 
 /* The address of a list, which is null only if the list is empty; then it is another address, which nobody reads. */
 #define LIST(type, list) ((list) ? (list) : (type *)(void *)nothing)
@@ -470,4 +477,44 @@ nashirudder_code nashirudder_map_unroomy(const nashirudder_map *map, uint32_t ro
     if (!map || (!cells && cells_length) || !count) return NASHIRUDDER_NULL_POINTER;
     nashirudder_map seen = *map;
     return raw_nashirudder_map_unroomy(&seen, robots, LIST(uint32_t, cells), cells_length, count);
+}
+
+nashirudder_code nashirudder_execution_open(uint32_t cells, const uint32_t *placement, size_t placement_length,
+        uint32_t clearance, uint32_t ahead, nashirudder_execution *execution) {
+    if ((!placement && placement_length) || !execution) return NASHIRUDDER_NULL_POINTER;
+    return raw_nashirudder_execution_open(cells, LIST(const uint32_t, placement), placement_length, clearance, ahead, execution);
+}
+
+void nashirudder_execution_close(nashirudder_execution *execution) {
+    if (!execution) return;
+    raw_nashirudder_execution_close(execution);
+}
+
+nashirudder_code nashirudder_execution_plan(nashirudder_execution *execution, const uint32_t *to, size_t to_length) {
+    if (!execution || (!to && to_length)) return NASHIRUDDER_NULL_POINTER;
+    return raw_nashirudder_execution_plan(execution, LIST(const uint32_t, to), to_length);
+}
+
+nashirudder_code nashirudder_execution_begin(nashirudder_execution *execution, nashirudder_move *begun) {
+    if (!execution || !begun) return NASHIRUDDER_NULL_POINTER;
+    return raw_nashirudder_execution_begin(execution, begun);
+}
+
+nashirudder_code nashirudder_execution_reached(nashirudder_execution *execution, uint32_t robot, nashirudder_move *ended) {
+    nashirudder_move unread_move;
+    if (!execution) return NASHIRUDDER_NULL_POINTER;
+    return raw_nashirudder_execution_reached(execution, robot, ended ? ended : &unread_move);
+}
+
+nashirudder_code nashirudder_execution_whereabouts(const nashirudder_execution *execution, uint32_t robot,
+        nashirudder_whereabouts *whereabouts) {
+    if (!execution || !whereabouts) return NASHIRUDDER_NULL_POINTER;
+    nashirudder_execution seen = *execution;
+    return raw_nashirudder_execution_whereabouts(&seen, robot, whereabouts);
+}
+
+nashirudder_code nashirudder_execution_progress(const nashirudder_execution *execution, nashirudder_progress *progress) {
+    if (!execution || !progress) return NASHIRUDDER_NULL_POINTER;
+    nashirudder_execution seen = *execution;
+    return raw_nashirudder_execution_progress(&seen, progress);
 }

@@ -23,7 +23,7 @@
 **
 ** NULL
 **     A call whose fleet, setup or list is null answers NASHIRUDDER_NULL_POINTER and does nothing. A `judgement`, `report`,
-**     `left` or `fault` that is not wanted may be null.
+**     `left` or `fault` that is not wanted may be null, and so may the move of a report.
 **
 ** MEMORY
 **     The library takes memory by malloc and realloc and gives it back by free. All that it took for a fleet is free after
@@ -137,7 +137,16 @@ typedef NASHIRUDDER_ENUM(nashirudder_code) {
     NASHIRUDDER_LAWS_DIFFER = 54,        /* the robots are not as many as the chapter's, or the chapter has stamps other than 0 */
     NASHIRUDDER_LIMITS_DIFFER = 55,      /* `queue` or `life` is not that of the chapter */
     NASHIRUDDER_CHAPTERS_SPENT = 56,     /* within the limits no chapter follows */
-    NASHIRUDDER_WAITED_TOO_LONG = 57     /* a robot has waited longer than it may on a map without bridges */
+    NASHIRUDDER_WAITED_TOO_LONG = 57,    /* a robot has waited longer than it may on a map without bridges */
+
+    /* what an execution refuses */
+    NASHIRUDDER_BAD_CLEARANCE = 60,      /* there is no clearance of this number */
+    NASHIRUDDER_BAD_WINDOW = 61,         /* the window has no step */
+    NASHIRUDDER_NO_PLACEMENT = 62,       /* two robots stand on one cell, or one stands on no cell of the map */
+    NASHIRUDDER_WINDOW_FULL = 63,        /* a move that lies a window of steps before the next step is not reached */
+    NASHIRUDDER_NO_STEP = 64,            /* the cells are no step, free of conflicts, from the last planned placement */
+    NASHIRUDDER_NO_MOVE = 65,            /* no move may begin */
+    NASHIRUDDER_NOT_UNDER_WAY = 66       /* the robot is not under way */
 } nashirudder_code;
 
 /*
@@ -178,6 +187,14 @@ typedef NASHIRUDDER_ENUM(nashirudder_state) {
     NASHIRUDDER_BUSY = 2,                /* it has errands */
     NASHIRUDDER_SHUT = 3                 /* it takes no further errands; it may still have some */
 } nashirudder_state;
+
+/*
+** CLEARANCES of an execution: when a robot's stay on a cell ends, so that another one may begin to move there.
+*/
+typedef NASHIRUDDER_ENUM(nashirudder_clearance) {
+    NASHIRUDDER_CLEARANCE_ARRIVED = 1,   /* when it has reached its next cell */
+    NASHIRUDDER_CLEARANCE_STARTED = 2    /* when it has begun to move to its next cell */
+} nashirudder_clearance;
 
 /* The structs below have numbers of 32 bits in these types' places. */
 typedef char nashirudder_enums_have_32_bits[sizeof(nashirudder_code) == 4 && sizeof(nashirudder_verdict) == 4 && sizeof(nashirudder_kind) == 4
@@ -235,6 +252,13 @@ static inline const char *nashirudder_code_name(uint32_t code) {
     case NASHIRUDDER_LIMITS_DIFFER: return "limits-differ";
     case NASHIRUDDER_CHAPTERS_SPENT: return "chapters-spent";
     case NASHIRUDDER_WAITED_TOO_LONG: return "waited-too-long";
+    case NASHIRUDDER_BAD_CLEARANCE: return "bad-clearance";
+    case NASHIRUDDER_BAD_WINDOW: return "bad-window";
+    case NASHIRUDDER_NO_PLACEMENT: return "no-placement";
+    case NASHIRUDDER_WINDOW_FULL: return "window-full";
+    case NASHIRUDDER_NO_STEP: return "no-step";
+    case NASHIRUDDER_NO_MOVE: return "no-move";
+    case NASHIRUDDER_NOT_UNDER_WAY: return "not-under-way";
     default: return "unknown";
     }
 }
@@ -303,6 +327,14 @@ typedef struct nashirudder_chapter {
     void *at;
     bool is_open;
 } nashirudder_chapter;
+
+/*
+** A handle to the execution of a plan. As with a fleet's, the caller owns its 16 bytes, which begin all zero.
+*/
+typedef struct nashirudder_execution {
+    void *at;
+    bool is_open;
+} nashirudder_execution;
 
 /*
 ** The number of clients and the limits of a fleet. nashirudder_setup_default fills it in; it begins with its size, so that a
@@ -445,6 +477,35 @@ typedef struct nashirudder_shape {
     uint32_t floor;     /* the cells that are floor */
     uint32_t edges;     /* the pairs of floor cells that share a side */
 } nashirudder_shape;
+
+/*
+** A move of an execution: a step of the plan in which a robot changes its cell.
+*/
+typedef struct nashirudder_move {
+    uint64_t tick;      /* the step, from 1 */
+    uint32_t robot;
+    uint32_t from;      /* the cell that it leaves */
+    uint32_t to;        /* the cell to which it moves */
+} nashirudder_move;
+
+/*
+** Where a robot of an execution is.
+*/
+typedef struct nashirudder_whereabouts {
+    uint32_t cell;      /* the cell that it reached last: it stands there, or is leaving it */
+    uint32_t bound_for; /* the cell to which it is under way; `cell` if it is not */
+    uint32_t left;      /* how many planned moves it has still to begin */
+    bool is_under_way;
+} nashirudder_whereabouts;
+
+/*
+** How far an execution has come.
+*/
+typedef struct nashirudder_progress {
+    uint64_t steps;     /* the steps that were planned */
+    uint32_t behind;    /* how many planned steps there are from the first with a move that is not reached; 0 if all are reached */
+    bool has_room;      /* whether a further step may be planned */
+} nashirudder_progress;
 
 /* ---- version and messages ---- */
 
@@ -859,6 +920,69 @@ NASHIRUDDER_MUST_USE nashirudder_code nashirudder_map_distances(const nashirudde
 */
 NASHIRUDDER_MUST_USE nashirudder_code nashirudder_map_unroomy(const nashirudder_map *map, uint32_t robots, uint32_t *cells, size_t cells_length,
                                  size_t *count);
+
+/* ---- the execution of a plan by robots that are not in step ---- */
+
+/*
+** A tick of a plan moves all robots at once; real robots are late. An execution says which move may begin, so that a late robot
+** holds up only those that need its cells (docs/EXECUTION.md). It is not tied to a fleet of this library: the plan may be any
+** planner's, and an execution knows no map, only cells by number.
+**
+** A robot may begin its next move if it has reached its cell, and each stay that the plan has on the new cell before has ended,
+** as the clearance says. Robots of which each enters the cell that the next one leaves, in one step of the plan, turn in a cycle
+** and begin together. In whatever order robots report, each cell is visited in the order of the plan, robots are always bound
+** for different cells, no two exchange theirs, and while a planned move has not begun, a robot is under way or a move may begin.
+**
+** Opens a closed handle to the execution of a plan that begins with this placement, which has the cell of each robot, on a map
+** whose cells have the numbers below `cells`. At most `ahead` steps are planned that are not reached. All memory is taken here:
+** 28 bytes for each cell, 40 for each robot and step of the window, and 45 for each robot.
+**
+** Refused: NASHIRUDDER_ALREADY_OPEN; NASHIRUDDER_BAD_CLEARANCE; NASHIRUDDER_BAD_WINDOW if `ahead` is 0; NASHIRUDDER_NO_PLACEMENT;
+** and NASHIRUDDER_NO_MEMORY at any time.
+*/
+NASHIRUDDER_MUST_USE nashirudder_code nashirudder_execution_open(uint32_t cells, const uint32_t *placement, size_t placement_length,
+                               uint32_t clearance, uint32_t ahead, nashirudder_execution *execution);
+
+/*
+** Closes a handle to an execution: frees what an open one owns. A closed one stays closed.
+*/
+void nashirudder_execution_close(nashirudder_execution *execution);
+
+/*
+** Plans a further step: `to` has the cell of each robot after it. It is from the placement that was planned last, and free of
+** conflicts: no two robots come to one cell, and no two exchange their cells. That the cells are next to each other is not asked.
+**
+** Refused: NASHIRUDDER_NOT_OPEN; NASHIRUDDER_WINDOW_FULL; NASHIRUDDER_NO_STEP, also if the list has not one cell for each robot.
+*/
+NASHIRUDDER_MUST_USE nashirudder_code nashirudder_execution_plan(nashirudder_execution *execution, const uint32_t *to, size_t to_length);
+
+/*
+** The next move that may begin; it begins with this call, and so do the moves of all that turn with the robot in a cycle, which
+** the next calls return. Each move is returned once. Call it after each step that is planned and each report, until no move
+** may begin.
+**
+** Refused: NASHIRUDDER_NOT_OPEN, NASHIRUDDER_NO_MOVE.
+*/
+NASHIRUDDER_MUST_USE nashirudder_code nashirudder_execution_begin(nashirudder_execution *execution, nashirudder_move *begun);
+
+/*
+** Takes the report that a robot has reached the cell to which it is under way. `ended` is its move; it may be null.
+**
+** Refused: NASHIRUDDER_NOT_OPEN; NASHIRUDDER_NOT_UNDER_WAY, also if there is no robot of this number.
+*/
+NASHIRUDDER_MUST_USE nashirudder_code nashirudder_execution_reached(nashirudder_execution *execution, uint32_t robot, nashirudder_move *ended);
+
+/*
+** Where a robot is, and how many planned moves it has still to begin. Refused: NASHIRUDDER_NOT_OPEN, NASHIRUDDER_NO_ROBOT.
+*/
+NASHIRUDDER_MUST_USE nashirudder_code nashirudder_execution_whereabouts(const nashirudder_execution *execution, uint32_t robot,
+                               nashirudder_whereabouts *whereabouts);
+
+/*
+** How many steps were planned, how far behind them the robots are, and whether a further step may be planned. Refused:
+** NASHIRUDDER_NOT_OPEN.
+*/
+NASHIRUDDER_MUST_USE nashirudder_code nashirudder_execution_progress(const nashirudder_execution *execution, nashirudder_progress *progress);
 
 #ifdef __cplusplus
 }

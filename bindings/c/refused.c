@@ -119,9 +119,35 @@ static int reopens(const nashirudder_robot *robots, const nashirudder_setup *set
     }
 }
 
+/* Each growth of an execution's opening refused in turn; no other call of an execution takes memory. */
+static int executions(long *refused) {
+    static const uint32_t placement[2] = {0, 1}, to[2] = {1, 2};
+    for (long n = 0;; n++) {
+        nashirudder_execution run = NASHIRUDDER_CLOSED;
+        nashirudder_move move;
+        left = n;
+        uint32_t code = nashirudder_execution_open(4, placement, 2, NASHIRUDDER_CLEARANCE_ARRIVED, 3, &run);
+        bool is_last = left >= 0;
+        if (code == NASHIRUDDER_DONE) {
+            left = 0;
+            if (nashirudder_execution_plan(&run, to, 2) != NASHIRUDDER_DONE || nashirudder_execution_begin(&run, &move) != NASHIRUDDER_DONE
+                || nashirudder_execution_reached(&run, 1, &move) != NASHIRUDDER_DONE || left != 0) return 0;
+        } else if (code != NASHIRUDDER_NO_MEMORY || run.is_open) {
+            return 0;
+        }
+        left = -1;
+        nashirudder_execution_close(&run);
+        if (live != 0) return 0;
+        if (is_last) return code == NASHIRUDDER_DONE;
+        if (code == NASHIRUDDER_DONE) return 0;
+        ++*refused;
+    }
+}
+
 int main(void) {
-    long opens = 0, orders = 0, ticks = 0, others = 0, on_maps = 0, again = 0;
+    long opens = 0, orders = 0, ticks = 0, others = 0, on_maps = 0, again = 0, on_executions = 0;
     if (!maps(&on_maps)) return 9;
+    if (!executions(&on_executions)) return 11;
     nashirudder_robot robots[2] = {{0, {0, 1, 0, 0}}, {3, {0, 0, 0, 0}}};
     nashirudder_setup setup;
     nashirudder_setup_default(1, &setup);
@@ -165,8 +191,8 @@ int main(void) {
             return 7;
         }
         if (rest > 0) {
-            printf("bindings/c/refused.c: %ld growths refused in turn, at %ld openings, %ld orders, %ld ticks, %ld other calls, %ld at reopenings, and %ld on maps; nothing lost\n",
-                   n, opens, orders, ticks, others, again, on_maps);
+            printf("bindings/c/refused.c: %ld growths refused in turn, at %ld openings, %ld orders, %ld ticks, %ld other calls, %ld at reopenings, %ld on maps, and %ld at executions; nothing lost\n",
+                   n, opens, orders, ticks, others, again, on_maps, on_executions);
             return 0;
         }
     }

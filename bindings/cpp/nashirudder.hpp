@@ -91,6 +91,9 @@ using Shape = nashirudder_shape;
 using Errand = nashirudder_errand;
 using Standing = nashirudder_standing;
 using Account = nashirudder_account;
+using Move = nashirudder_move;
+using Whereabouts = nashirudder_whereabouts;
+using Progress = nashirudder_progress;
 
 /* What a call answers, as by nashirudder.h. */
 enum class Code : std::uint32_t {
@@ -112,7 +115,9 @@ enum class Code : std::uint32_t {
     trace_version = NASHIRUDDER_TRACE_VERSION, trace_shape = NASHIRUDDER_TRACE_SHAPE,
     chapter_illegal = NASHIRUDDER_CHAPTER_ILLEGAL, laws_differ = NASHIRUDDER_LAWS_DIFFER,
     limits_differ = NASHIRUDDER_LIMITS_DIFFER, chapters_spent = NASHIRUDDER_CHAPTERS_SPENT,
-    waited_too_long = NASHIRUDDER_WAITED_TOO_LONG,
+    waited_too_long = NASHIRUDDER_WAITED_TOO_LONG, bad_clearance = NASHIRUDDER_BAD_CLEARANCE,
+    bad_window = NASHIRUDDER_BAD_WINDOW, no_placement = NASHIRUDDER_NO_PLACEMENT, window_full = NASHIRUDDER_WINDOW_FULL,
+    no_step = NASHIRUDDER_NO_STEP, no_move = NASHIRUDDER_NO_MOVE, not_under_way = NASHIRUDDER_NOT_UNDER_WAY,
 };
 
 /* What an order is answered. */
@@ -127,6 +132,11 @@ enum class Verdict : std::uint32_t {
 /* What a robot does. */
 enum class State : std::uint32_t {
     free = NASHIRUDDER_FREE, busy = NASHIRUDDER_BUSY, shut = NASHIRUDDER_SHUT,
+};
+
+/* When a robot's stay on a cell ends, so that another one may begin to move there (nashirudder::Execution). */
+enum class Clearance : std::uint32_t {
+    arrived = NASHIRUDDER_CLEARANCE_ARRIVED, started = NASHIRUDDER_CLEARANCE_STARTED,
 };
 
 /* The library's structs have numbers; each is compared with the name of its enum class, and `switch (Verdict(told.verdict))`
@@ -161,6 +171,9 @@ inline auto fields(const Shape &it) { return std::make_tuple(it.height, it.width
 inline auto fields(const Errand &it) { return std::make_tuple(it.client, it.number, it.robot, it.place, it.cell); }
 inline auto fields(const Standing &it) { return std::make_tuple(it.cell, it.goal, it.state, it.wait, it.errands); }
 inline auto fields(const Account &it) { return std::make_tuple(it.taken, it.owed, it.pending, it.room); }
+inline auto fields(const Move &it) { return std::make_tuple(it.tick, it.robot, it.from, it.to); }
+inline auto fields(const Whereabouts &it) { return std::make_tuple(it.cell, it.bound_for, it.left, it.is_under_way); }
+inline auto fields(const Progress &it) { return std::make_tuple(it.steps, it.behind, it.has_room); }
 
 } // namespace detail
 
@@ -1094,6 +1107,71 @@ private:
     Map() = default;
 
     nashirudder_map handle = NASHIRUDDER_CLOSED;
+};
+
+/* The execution of a plan, of any planner, by robots that are not in step (docs/EXECUTION.md). */
+class Execution {
+public:
+    /* Begins on the cells `placement`, by robot, on a map whose cells have the numbers below `cells`; at most `ahead` steps are
+       planned that are not reached. Takes all its memory here. */
+    Execution(std::uint32_t cells, Span<const std::uint32_t> placement, Clearance clearance = Clearance::arrived, std::uint32_t ahead = 10) {
+        detail::check_version();
+        detail::check(nashirudder_execution_open(cells, placement.data(), placement.size(), static_cast<std::uint32_t>(clearance), ahead, &handle));
+    }
+    [[nodiscard]] static Expected<Execution> try_open(std::uint32_t cells, Span<const std::uint32_t> placement, Clearance clearance = Clearance::arrived,
+                                                      std::uint32_t ahead = 10) {
+        Execution run;
+        const nashirudder_code code = detail::is_fitting() ? nashirudder_execution_open(cells, placement.data(), placement.size(),
+            static_cast<std::uint32_t>(clearance), ahead, &run.handle) : NASHIRUDDER_WRONG_SIZE;
+        if (code != NASHIRUDDER_DONE) return detail::Unexpected(Fault{0, 0, code});
+        return run;
+    }
+    Execution(const Execution &) = delete;
+    Execution &operator=(const Execution &) = delete;
+    Execution(Execution &&other) noexcept : handle(std::exchange(other.handle, nashirudder_execution NASHIRUDDER_CLOSED)) {}
+    Execution &operator=(Execution &&other) noexcept {
+        if (this != &other) {
+            nashirudder_execution_close(&handle);
+            handle = std::exchange(other.handle, nashirudder_execution NASHIRUDDER_CLOSED);
+        }
+        return *this;
+    }
+    ~Execution() { nashirudder_execution_close(&handle); }
+
+    /* Plans a further step, to a cell for each robot. Refused where has_room is false (Code::window_full), and where it is no step
+       free of conflicts (Code::no_step). */
+    void plan(Span<const std::uint32_t> to) { detail::check(nashirudder_execution_plan(&handle, to.data(), to.size())); }
+    [[nodiscard]] Expected<void> try_plan(Span<const std::uint32_t> to) { return detail::expected(nashirudder_execution_plan(&handle, to.data(), to.size())); }
+    /* The next move that may begin, which begins with this call; nothing where none may. Each is returned once. */
+    [[nodiscard]] std::optional<Move> begin() {
+        Move move{};
+        if (!detail::is_there(nashirudder_execution_begin(&handle, &move), NASHIRUDDER_NO_MOVE)) return std::nullopt;
+        return move;
+    }
+    /* Takes the report that a robot has reached the cell of its move; nothing where it is not under way. */
+    std::optional<Move> reached(std::uint32_t robot) {
+        Move move{};
+        if (!detail::is_there(nashirudder_execution_reached(&handle, robot, &move), NASHIRUDDER_NOT_UNDER_WAY)) return std::nullopt;
+        return move;
+    }
+    /* Where a robot is; nothing where there is no robot of this number. */
+    [[nodiscard]] std::optional<Whereabouts> whereabouts(std::uint32_t robot) const {
+        Whereabouts found{};
+        if (!detail::is_there(nashirudder_execution_whereabouts(&handle, robot, &found), NASHIRUDDER_NO_ROBOT)) return std::nullopt;
+        return found;
+    }
+    /* How far it has come. */
+    [[nodiscard]] Progress progress() const {
+        Progress progress{};
+        detail::check(nashirudder_execution_progress(&handle, &progress));
+        return progress;
+    }
+    [[nodiscard]] bool has_room() const { return progress().has_room; }
+
+private:
+    Execution() = default;
+
+    nashirudder_execution handle = NASHIRUDDER_CLOSED;
 };
 
 /* Nothing where the step is free of conflicts, else its first fault. */

@@ -96,6 +96,22 @@ class CShape(ctypes.Structure):
     ]
 
 
+class CExecution(ctypes.Structure):
+    _fields_ = [("at", c_void_p), ("is_open", c_bool)]
+
+
+class CMove(ctypes.Structure):
+    _fields_ = [("tick", c_uint64), ("robot", c_uint32), ("from", c_uint32), ("to", c_uint32)]
+
+
+class CWhereabouts(ctypes.Structure):
+    _fields_ = [("cell", c_uint32), ("bound_for", c_uint32), ("left", c_uint32), ("is_under_way", c_bool)]
+
+
+class CProgress(ctypes.Structure):
+    _fields_ = [("steps", c_uint64), ("behind", c_uint32), ("has_room", c_bool)]
+
+
 _FLEET, _TEXT = POINTER(CFleet), (c_char_p, c_size_t)
 
 # Each function's parameters. All but those in RESULTS answer a code.
@@ -158,9 +174,17 @@ FUNCTIONS = {
     "map_first_bridge": (POINTER(CMap), POINTER(CEdge)),
     "map_distances": (POINTER(CMap), c_uint32, POINTER(c_uint32), c_size_t),
     "map_unroomy": (POINTER(CMap), c_uint32, POINTER(c_uint32), c_size_t, POINTER(c_size_t)),
+    "execution_open": (c_uint32, POINTER(c_uint32), c_size_t, c_uint32, c_uint32, POINTER(CExecution)),
+    "execution_close": (POINTER(CExecution),),
+    "execution_plan": (POINTER(CExecution), POINTER(c_uint32), c_size_t),
+    "execution_begin": (POINTER(CExecution), POINTER(CMove)),
+    "execution_reached": (POINTER(CExecution), c_uint32, POINTER(CMove)),
+    "execution_whereabouts": (POINTER(CExecution), c_uint32, POINTER(CWhereabouts)),
+    "execution_progress": (POINTER(CExecution), POINTER(CProgress)),
 }
 RESULTS = {
     "setup_default": None, "setup_endless": None, "close": None, "map_close": None, "chapter_close": None,
+    "execution_close": None,
     "version": c_uint32, "is_proved": c_bool, "message": c_size_t,
 }
 

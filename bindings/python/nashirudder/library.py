@@ -4,7 +4,7 @@
 
 `Fleet` has the names, arguments and exceptions of `nashirudder.Fleet`, so that a program runs with either. `Handle` has
 the calls of nashirudder.h. `Map`, `check_step`, `first_bridge` and `distances` are questions about a map, and `judge`
-is one about a map and a chapter.
+is one about a map and a chapter. `Execution` carries out the plan of any planner with robots that are not in step.
 `nashirudder.finding` says where the library is looked for.
 """
 
@@ -18,6 +18,7 @@ from .asked import CloseClient, Go, Withdraw
 from .calls import FAR, NOWHERE, is_proved
 from .ended import EndedChapter
 from .errors import Ended, FileFailed, FleetError, NoMemory, OutOfRange, OrderRefused, Refused, refusal
+from .execution import Execution, Move, Progress, Whereabouts
 from .finding import Place
 from .fleet import AnyFleet
 from .folder import ChapterFolder
@@ -36,7 +37,7 @@ from .turns import OwnTurns
 
 __all__ = [
     "FAR", "JUDGEMENT", "NOWHERE", "ORDER", "STANDING", "Account", "Arrival", "Chapter", "CloseClient", "Code",
-    "EndedChapter", "Errand", "Farewell", "Fleet", "Go", "Handle", "Judgement", "Look", "Map", "Notice", "OpenErrand",
+    "EndedChapter", "Errand", "Execution", "Farewell", "Fleet", "Go", "Handle", "Judgement", "Look", "Map", "Move", "Notice", "OpenErrand",
     "OrderRefused", "Refused", "Report", "Standing", "Opening", "OpeningClient", "OpeningErrand", "OpeningRobot", "Taken",
     "TickRecord", "Verdict", "Withdraw", "check_step", "distances", "first_bridge", "is_proved", "judge",
 ]

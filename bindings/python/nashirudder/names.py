@@ -59,6 +59,13 @@ class Code(enum.IntEnum):
     LIMITS_DIFFER = 55
     CHAPTERS_SPENT = 56
     WAITED_TOO_LONG = 57
+    BAD_CLEARANCE = 60
+    BAD_WINDOW = 61
+    NO_PLACEMENT = 62
+    WINDOW_FULL = 63
+    NO_STEP = 64
+    NO_MOVE = 65
+    NOT_UNDER_WAY = 66
 
     @property
     def word(self) -> str:
@@ -141,6 +148,13 @@ SENTENCES = {
     "limits-differ": "the limits `queue` and `life` are not those of the chapter",
     "chapters-spent": "within the limits no chapter follows",
     "waited-too-long": "a robot has waited longer than it may",
+    "bad-clearance": "there is no clearance of this number",
+    "bad-window": "the window of the execution has no step",
+    "no-placement": "two robots stand on one cell, or one stands on no cell of the map",
+    "window-full": "a move is not reached that lies as many steps before the next one as the window has",
+    "no-step": "the cells are no step, free of conflicts, from the placement that was planned last",
+    "no-move": "no move may begin",
+    "not-under-way": "the robot is not under way",
     "client-closed": "the client is closed",
     "robot-shut": "the robot takes no further errands",
     "no-cell": "the map has no cell of this number",

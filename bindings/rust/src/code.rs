@@ -3,6 +3,7 @@
 pub(crate) const DONE: u32 = 0;
 pub(crate) const CHAPTER_FULL: u32 = 7;
 pub(crate) const NOT_OPEN: u32 = 2;
+pub(crate) const NO_ROBOT: u32 = 5;
 pub(crate) const NO_NOTICE: u32 = 11;
 pub(crate) const IDLE: u32 = 13;
 pub(crate) const HAS_BRIDGE: u32 = 14;
@@ -10,6 +11,8 @@ pub(crate) const WRONG_LENGTH: u32 = 15;
 pub(crate) const WRONG_SIZE: u32 = 34;
 pub(crate) const NO_BRIDGE: u32 = 48;
 pub(crate) const TRACE_SHAPE: u32 = 52;
+pub(crate) const NO_MOVE: u32 = 65;
+pub(crate) const NOT_UNDER_WAY: u32 = 66;
 
 /// Why a call was refused.
 #[non_exhaustive]
@@ -107,6 +110,20 @@ pub enum Code {
     ChaptersSpent,
     /// A robot has waited longer than it may on a map without bridges.
     WaitedTooLong,
+    /// There is no clearance of this number.
+    BadClearance,
+    /// The window of an execution has no step.
+    BadWindow,
+    /// Two robots stand on one cell, or one stands on no cell of the map.
+    NoPlacement,
+    /// A move that lies a window of steps before the next step is not reached.
+    WindowFull,
+    /// The cells are no step, free of conflicts, from the placement that was planned last.
+    NoStep,
+    /// No move may begin.
+    NoMove,
+    /// The robot is not under way.
+    NotUnderWay,
     /// A number that the library has and this crate has not.
     Unknown(u32),
 }
@@ -160,6 +177,13 @@ impl Code {
             55 => Code::LimitsDiffer,
             56 => Code::ChaptersSpent,
             57 => Code::WaitedTooLong,
+            60 => Code::BadClearance,
+            61 => Code::BadWindow,
+            62 => Code::NoPlacement,
+            63 => Code::WindowFull,
+            64 => Code::NoStep,
+            65 => Code::NoMove,
+            66 => Code::NotUnderWay,
             number => Code::Unknown(number),
         }
     }
@@ -213,6 +237,13 @@ impl Code {
             Code::LimitsDiffer => 55,
             Code::ChaptersSpent => 56,
             Code::WaitedTooLong => 57,
+            Code::BadClearance => 60,
+            Code::BadWindow => 61,
+            Code::NoPlacement => 62,
+            Code::WindowFull => 63,
+            Code::NoStep => 64,
+            Code::NoMove => 65,
+            Code::NotUnderWay => 66,
             Code::Unknown(number) => number,
         }
     }
@@ -266,6 +297,13 @@ impl Code {
             Code::LimitsDiffer => "limits-differ",
             Code::ChaptersSpent => "chapters-spent",
             Code::WaitedTooLong => "waited-too-long",
+            Code::BadClearance => "bad-clearance",
+            Code::BadWindow => "bad-window",
+            Code::NoPlacement => "no-placement",
+            Code::WindowFull => "window-full",
+            Code::NoStep => "no-step",
+            Code::NoMove => "no-move",
+            Code::NotUnderWay => "not-under-way",
             Code::Unknown(_) => "unknown",
         }
     }

@@ -15,6 +15,8 @@
 //!
 //! A fleet is `Send` and `Sync`: it may move to another thread, and several threads may look at one at once.
 //!
+//! An [`Execution`] carries out the plan of any planner with robots that are not in step.
+//!
 //! Clients, robots and cells are passed as plain numbers or as [`Client`], [`RobotId`] and [`Cell`], which the compiler
 //! tells apart: `fleet.go(Client(0), RobotId(2), Cell(17))`. What is told has plain numbers.
 
@@ -23,6 +25,7 @@
 mod chapter;
 mod code;
 mod error;
+mod execution;
 mod fleet;
 mod map;
 mod notices;
@@ -38,6 +41,7 @@ mod views;
 pub use chapter::{Chapter, FullChapter, Kept};
 pub use code::Code;
 pub use error::{Error, Refused};
+pub use execution::{Clearance, Execution, Move, Progress, Whereabouts};
 pub use fleet::Fleet;
 pub use map::{check_step, distances, first_bridge, judge, Map, Shape};
 pub use notices::Notices;

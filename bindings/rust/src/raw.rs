@@ -123,6 +123,32 @@ pub(crate) struct RawEdge {
     pub upper: u32,
 }
 
+#[repr(C)]
+#[derive(Default)]
+pub(crate) struct RawMove {
+    pub tick: u64,
+    pub robot: u32,
+    pub from: u32,
+    pub to: u32,
+}
+
+#[repr(C)]
+#[derive(Default)]
+pub(crate) struct RawWhereabouts {
+    pub cell: u32,
+    pub bound_for: u32,
+    pub left: u32,
+    pub is_under_way: bool,
+}
+
+#[repr(C)]
+#[derive(Default)]
+pub(crate) struct RawProgress {
+    pub steps: u64,
+    pub behind: u32,
+    pub has_room: bool,
+}
+
 /// A call that opens a fleet.
 pub(crate) type Open = unsafe extern "C" fn(
     map: *const u8,
@@ -341,6 +367,35 @@ extern "C" {
         cells: *mut u32,
         cells_length: usize,
         count: *mut usize,
+    ) -> u32;
+    pub(crate) fn nashirudder_execution_open(
+        cells: u32,
+        placement: *const u32,
+        placement_length: usize,
+        clearance: u32,
+        ahead: u32,
+        execution: *mut Handle,
+    ) -> u32;
+    pub(crate) fn nashirudder_execution_close(execution: *mut Handle);
+    pub(crate) fn nashirudder_execution_plan(
+        execution: *mut Handle,
+        to: *const u32,
+        to_length: usize,
+    ) -> u32;
+    pub(crate) fn nashirudder_execution_begin(execution: *mut Handle, begun: *mut RawMove) -> u32;
+    pub(crate) fn nashirudder_execution_reached(
+        execution: *mut Handle,
+        robot: u32,
+        ended: *mut RawMove,
+    ) -> u32;
+    pub(crate) fn nashirudder_execution_whereabouts(
+        execution: *const Handle,
+        robot: u32,
+        whereabouts: *mut RawWhereabouts,
+    ) -> u32;
+    pub(crate) fn nashirudder_execution_progress(
+        execution: *const Handle,
+        progress: *mut RawProgress,
     ) -> u32;
     pub(crate) fn nashirudder_judge(
         map: *const u8,

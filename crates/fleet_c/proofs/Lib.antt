@@ -1,6 +1,7 @@
 mod AllErrands
 mod AsBox
 mod AsChapterBox
+mod AsExecutionBox
 mod AsMapBox
 mod BoxWalk
 mod Counted

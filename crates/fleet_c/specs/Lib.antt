@@ -16,4 +16,6 @@ pub mod HandedOut
 pub mod Errands
 pub mod Floors
 pub mod Judged
+pub mod OwnsExecution
+pub mod Executions
 pub mod inside

@@ -65,6 +65,16 @@ trace_text code =
     else if code == 56 then codes "within the limits no chapter follows"
     else codes "a robot has waited longer than it may"
 
+abbrev pub execution_text : ℕ → List ℕ
+execution_text code =
+    if code == 60 then codes "there is no clearance of this number"
+    else if code == 61 then codes "the window of the execution has no step"
+    else if code == 62 then codes "two robots stand on one cell, or one stands on no cell of the map"
+    else if code == 63 then codes "a move is not reached that lies as many steps before the next one as the window has"
+    else if code == 64 then codes "the cells are no step, free of conflicts, from the placement that was planned last"
+    else if code == 65 then codes "no move may begin"
+    else codes "the robot is not under way"
+
 -- whether a number is at least this one, and below the end
 abbrev pub is_in : ℕ → ℕ → ℕ → Bool
 is_in least end n = nat_le least n && nat_lt n end
@@ -79,6 +89,7 @@ sentence_of code =
     else if is_in 30 35 code then open_text code
     else if is_in 40 50 code then step_text code
     else if is_in 50 58 code then trace_text code
+    else if is_in 60 67 code then execution_text code
     else codes "there is no such code"
 
 -- a byte of a sentence, or the number that stands for it

@@ -99,3 +99,18 @@ pub const LIMITS_DIFFER: u32 = 55;
 pub const CHAPTERS_SPENT: u32 = 56;
 /// A robot has waited longer than it may.
 pub const WAITED_TOO_LONG: u32 = 57;
+
+/// There is no clearance with this number.
+pub const BAD_CLEARANCE: u32 = 60;
+/// The window of an execution has no step.
+pub const BAD_WINDOW: u32 = 61;
+/// Two robots stand on one cell, or one stands on a cell that is not on the map.
+pub const NO_PLACEMENT: u32 = 62;
+/// A move that lies a window of steps before the next step is not reached.
+pub const WINDOW_FULL: u32 = 63;
+/// The cells are no step, free of conflicts, from the placement that was planned last.
+pub const NO_STEP: u32 = 64;
+/// No move may begin.
+pub const NO_MOVE: u32 = 65;
+/// The robot is not under way.
+pub const NOT_UNDER_WAY: u32 = 66;

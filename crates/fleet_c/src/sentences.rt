@@ -1,7 +1,7 @@
 //! A sentence for each code. In it `#` stands for the first number of the fault, and `%` for the second.
 
 ghost use Rattle.std.specs.Prelude.{◌≡◌, ◌≤◌, length};
-ghost use Rattle.fleet_c.specs.Sentences.{call_text, fleet_text, open_text, step_text, trace_text, sentence_of};
+ghost use Rattle.fleet_c.specs.Sentences.{call_text, fleet_text, open_text, step_text, trace_text, execution_text, sentence_of};
 
 /// What is wrong with a call, whatever it is.
 fn call_text(code: u32) -> &'static str
@@ -99,6 +99,22 @@ fn trace_text(code: u32) -> &'static str
     }
 }
 
+/// What an execution refuses.
+fn execution_text(code: u32) -> &'static str
+    ensures text { result.now ≡ execution_text code }
+    ensures short { length result.now ≤ 120 }
+{
+    match code {
+        60 => "there is no clearance of this number",
+        61 => "the window of the execution has no step",
+        62 => "two robots stand on one cell, or one stands on no cell of the map",
+        63 => "a move is not reached that lies as many steps before the next one as the window has",
+        64 => "the cells are no step, free of conflicts, from the placement that was planned last",
+        65 => "no move may begin",
+        _ => "the robot is not under way",
+    }
+}
+
 /// The sentence for a code.
 pub(crate) fn sentence_of(code: u32) -> &'static str
     ensures text { result.now ≡ sentence_of code }
@@ -114,6 +130,8 @@ pub(crate) fn sentence_of(code: u32) -> &'static str
         step_text(code)
     } else if 50 <= code && code < 58 {
         trace_text(code)
+    } else if 60 <= code && code < 67 {
+        execution_text(code)
     } else {
         "there is no such code"
     }

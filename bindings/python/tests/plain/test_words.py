@@ -30,6 +30,7 @@ STRUCTS = {
     "judgement": calls.CJudgement, "report": calls.CReport, "note": calls.CNote, "order": calls.COrder,
     "arrival": calls.CArrival, "edge": calls.CEdge, "map": calls.CMap, "shape": calls.CShape,
     "errand": calls.CErrand, "standing": calls.CStanding, "account": calls.CAccount, "chapter": calls.CChapter,
+    "execution": calls.CExecution, "move": calls.CMove, "whereabouts": calls.CWhereabouts, "progress": calls.CProgress,
 }
 
 
@@ -90,7 +91,7 @@ class HeaderTest(unittest.TestCase):
         found = {int(number): told for number, told in re.findall(r'^ +(\d+) => (?:\{\s*)?"(.*)"', text, re.M)}
         # The last arm of each function is for the greatest number of its kind.
         rest = re.findall(r'^fn \w+.*?\b_ => (?:\{\s*)?"(.*?)"', text, re.M | re.S)
-        found.update(zip((18, 14, 34, 49, 57), rest))
+        found.update(zip((18, 14, 34, 49, 57, 66), rest))
         self.assertEqual(set(found), {int(code) for code in names.Code})
         for word, sentence in names.SENTENCES.items():
             if word in names.CODE_OF:
