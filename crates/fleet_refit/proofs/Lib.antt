@@ -1,0 +1,4 @@
+pub mod Replaced
+pub mod Seats
+pub mod Settling
+pub mod Sifted
