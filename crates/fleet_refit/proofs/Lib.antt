@@ -1,3 +1,5 @@
+pub mod Cancelled
+pub mod Made
 pub mod Replaced
 pub mod Seats
 pub mod Settling
