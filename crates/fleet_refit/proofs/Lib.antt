@@ -1,5 +1,6 @@
 pub mod Cancelled
 pub mod Made
+pub mod Refitted
 pub mod Replaced
 pub mod Seats
 pub mod Settling

@@ -16,7 +16,8 @@ made-nothing s before = ([], none, sym (append-nil before))
 
 pub made-more : {A : Type 0} (s t u : SiteView A) (changes : List Change) (before now last : List Dropped) (i : ℕ) (d : Change) → Made s (take i changes) t before now → i < length changes →
     fault_of t (get_or changes i d) ≡ None → Changes t (get_or changes i d) u last → Made s (take (i + 1) changes) u before (now ++ last)
-made-more s t u changes before now last i d (gone, are, listed) inside can is =
-    (gone ++ last,
-     subst (λ l. AreMade s l u (gone ++ last)) (sym (take_more changes i d inside)) (made (get_or changes i d) last are can is),
-     ap (λ l. l ++ last) listed ∙ append_assoc before gone last)
+made-more s t u changes before now last i d (gone, are, listed) inside can is = (
+  gone ++ last,
+  subst (λ l. AreMade s l u (gone ++ last)) (sym (take_more changes i d inside)) (made (get_or changes i d) last are can is),
+  ap (λ l. l ++ last) listed ∙ append_assoc before gone last,
+)

@@ -52,7 +52,7 @@ pub numbers-more : {A : Type 0} (first : ℕ) (xs : List (Seat A)) (x : Seat A) 
 numbers-more first [] x = one-number (is_moving x.standing) first (first + 0) (omega arith)
 numbers-more first (y ∷ ys) x =
     ap (λ l. if is_moving y.standing then first ∷ l else l) (numbers-more (first + 1) ys x ∙ ap (λ l. numbers_from (first + 1) ys ++ l) (one-number (is_moving x.standing) ((first + 1) + length ys) (first + length (y ∷ ys)) (omega arith)))
-        ∙ front-number (is_moving y.standing) first (numbers_from (first + 1) ys) (if is_moving x.standing then (first + length (y ∷ ys)) ∷ [] else [])
+    ∙ front-number (is_moving y.standing) first (numbers_from (first + 1) ys) (if is_moving x.standing then (first + length (y ∷ ys)) ∷ [] else [])
 
 one-seat : {A : Type 0} (xs : List (Seat A)) (x : Seat A) (b : Bool) → is_moving x.standing ≡ b → moving_numbers (xs ++ x ∷ []) ≡ moving_numbers xs ++ (if b then length xs ∷ [] else [])
 one-seat xs x b is = numbers-more 0 xs x ∙ ap (λ n. moving_numbers xs ++ (if is_moving x.standing then n ∷ [] else [])) (omega arith) ∙ ap (λ m. moving_numbers xs ++ (if m then length xs ∷ [] else [])) is
@@ -61,7 +61,6 @@ pub numbers-moving : {A : Type 0} (numbers : List ℕ) (xs : List (Seat A)) (i :
     is_moving x.standing ≡ true → numbers ++ i ∷ [] ≡ moving_numbers (take (i + 1) xs)
 numbers-moving numbers xs i x is inside at moves =
     ap (λ l. l ++ i ∷ []) is ∙ ap (λ n. moving_numbers (take i xs) ++ n ∷ []) (sym (length-take-le i xs (omega arith))) ∙ sym (one-seat (take i xs) x true moves) ∙ ap moving_numbers (sym (grown xs i x inside at))
-
 
 pub numbers-other : {A : Type 0} (numbers : List ℕ) (xs : List (Seat A)) (i : ℕ) (x : Seat A) → numbers ≡ moving_numbers (take i xs) → i < length xs → x ≡ get_or xs i x →
     is_moving x.standing ≡ false → numbers ≡ moving_numbers (take (i + 1) xs)

@@ -21,7 +21,7 @@ pub all-settled : {A : Type 0} (m : Floor) (i : ℕ) (old now : List (Seat A)) (
     (gone : List Dropped) × AreSettled m old now gone × (dropped ≡ before ++ gone)
 all-settled m i old now before dropped so all =
     subst (λ l. (gone : List Dropped) × AreSettled m l now gone × (dropped ≡ before ++ gone)) (take_all i old all)
-        (subst (λ l. (gone : List Dropped) × AreSettled m (take i old) l gone × (dropped ≡ before ++ gone)) (take_all i now (subst (λ n. n ≤ i) (sym so.same) all)) so.settled)
+    (subst (λ l. (gone : List Dropped) × AreSettled m (take i old) l gone × (dropped ≡ before ++ gone)) (take_all i now (subst (λ n. n ≤ i) (sym so.same) all)) so.settled)
 
 head-of : {X : Type 0} → X → List X → X
 head-of d [] = d
@@ -43,9 +43,11 @@ one-settled {A} m i old now before dropped last x y so inside at is =
     let count : length (take i old) ≡ i = length-take-le i old (omega (arith, inside-old)) in
     let one : AreSettled m (take i old ++ x ∷ []) (take i now ++ y ∷ []) (gone ++ last) = more x y last settled (subst (λ n. IsSettled m n x y last) (sym count) is) in
     record {
-      settled = (gone ++ last,
+      settled = (
+        gone ++ last,
         subst (λ l. AreSettled m l (take (i + 1) (slice_set now i y)) (gone ++ last)) (sym taken) (subst (λ l. AreSettled m (take i old ++ x ∷ []) l (gone ++ last)) (sym (take_more_set now i y inside)) one),
-        ap (λ l. l ++ last) listed ∙ append_assoc before gone last);
+        ap (λ l. l ++ last) listed ∙ append_assoc before gone last,
+      );
       left = drop-set-lt (i + 1) now i y (omega arith) ∙ ap tail-of both;
       same = length-set now i y ∙ so.same;
     }

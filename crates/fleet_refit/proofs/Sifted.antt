@@ -28,6 +28,8 @@ lists-kept S robot taken stay before now e (gone, sifts, is) stays = (gone, sift
 pub lists-dropped : (S : Errand → Type 0) (robot : ℕ) (taken stay : List Errand) (before now : List Dropped) (e : Errand) → Lists S robot taken stay before now → (S e → ⊥) →
     Lists S robot (taken ++ e ∷ []) stay before (now ++ dropped_of robot e ∷ [])
 lists-dropped S robot taken stay before now e (gone, sifts, is) goes =
-    let one = dropped_of robot e ∷ [] in
-    (gone ++ e ∷ [], sifts-dropped e sifts goes,
-     ap (λ l. l ++ one) is ∙ append_assoc before (map (dropped_of robot) gone) one ∙ ap (λ l. before ++ l) (sym (map_push (dropped_of robot) gone e)))
+    let one = dropped_of robot e ∷ [] in (
+      gone ++ e ∷ [],
+      sifts-dropped e sifts goes,
+      ap (λ l. l ++ one) is ∙ append_assoc before (map (dropped_of robot) gone) one ∙ ap (λ l. before ++ l) (sym (map_push (dropped_of robot) gone e)),
+    )

@@ -34,7 +34,7 @@ taken_fault (Some me) (Some robot) = if robot == me then None else Some (fault.I
 abbrev pub floor_fault : {A : Type 0} → SiteView A → Option ℕ → ℕ → Option ChangeFault
 floor_fault s mine cell =
     fault_if (not (nat_lt cell (length s.map.letters))) fault.NoCell
-        (fault_if (not (is_floor s.map cell)) fault.IsWall (taken_fault mine (position (stands_on cell) s.seats)))
+    (fault_if (not (is_floor s.map cell)) fault.IsWall (taken_fault mine (position (stands_on cell) s.seats)))
 
 -- why the cell is no wall
 abbrev pub wall_fault : {A : Type 0} → SiteView A → ℕ → Option ChangeFault
@@ -76,7 +76,7 @@ is_void law = nat_lt law.high law.low
 abbrev pub join_fault : {A : Type 0} → SiteView A → ℕ → StampLaw → StampLaw → Option ChangeFault
 join_fault s cell arrivals farewells =
     or_fault (floor_fault s None cell)
-        (fault_if (not (nat_lt (length s.seats) 512)) fault.TooMany (fault_if (is_void arrivals || is_void farewells) fault.NoStamp None))
+    (fault_if (not (nat_lt (length s.seats) 512)) fault.TooMany (fault_if (is_void arrivals || is_void farewells) fault.NoStamp None))
 
 -- why the robot cannot have been carried to the cell
 abbrev pub move_fault : {A : Type 0} → SiteView A → ℕ → ℕ → Option ChangeFault

@@ -6,9 +6,13 @@ use fleet_hooks::StampLaw;
 #[derive(Clone, Copy, Debug, PartialEq, Eq)]
 pub enum Change {
     /// The floor cell becomes a wall.
-    Block { cell: u32 },
+    Block {
+        cell: u32,
+    },
     /// The wall becomes floor.
-    Open { cell: u32 },
+    Open {
+        cell: u32,
+    },
     /// A new robot, which gets the next number, stands on the cell.
     Join {
         cell: u32,
@@ -16,15 +20,27 @@ pub enum Change {
         farewell_law: StampLaw,
     },
     /// The robot is taken away. Its number is not given again, and its errands are dropped.
-    Leave { robot: u32 },
+    Leave {
+        robot: u32,
+    },
     /// The robot cannot move: its cell is planned around like a wall. It keeps its errands.
-    Hold { robot: u32 },
+    Hold {
+        robot: u32,
+    },
     /// The robot that was held can move again.
-    Free { robot: u32 },
+    Free {
+        robot: u32,
+    },
     /// The robot was carried to the cell.
-    Move { robot: u32, cell: u32 },
+    Move {
+        robot: u32,
+        cell: u32,
+    },
     /// The client's unfinished errand is dropped, also where it is in front.
-    Cancel { client: u32, number: u64 },
+    Cancel {
+        client: u32,
+        number: u64,
+    },
 }
 
 /// Why a change cannot be made.

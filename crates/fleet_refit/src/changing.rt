@@ -155,12 +155,7 @@ impl<A: Allocator + Copy> Site<A> {
     }
 
     /// Why no robot with these laws can come to the cell.
-    fn join_fault(
-        &self,
-        cell: u32,
-        arrivals: StampLaw,
-        farewells: StampLaw,
-    ) -> Option<ChangeFault>
+    fn join_fault(&self, cell: u32, arrivals: StampLaw, farewells: StampLaw) -> Option<ChangeFault>
         ensures { result ≡ join_fault self.now cell arrivals farewells }
     {
         let fault = self.floor_fault(None, cell);

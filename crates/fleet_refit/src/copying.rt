@@ -8,21 +8,30 @@ use fleet_queue::Errand;
 use std::alloc::{AllocError, Allocator};
 
 /// The same errands.
-pub(crate) fn copied_errands<A: Allocator + Copy>(alloc: A, errands: &Row<Errand, A>) -> Result<Row<Errand, A>, AllocError>
+pub(crate) fn copied_errands<A: Allocator + Copy>(
+    alloc: A,
+    errands: &Row<Errand, A>,
+) -> Result<Row<Errand, A>, AllocError>
     ensures { IfOk result (λ row. row ≡ errands.now) }
 {
     Ok(Row::from_vec(Vec::from_slice(alloc, errands.as_slice())?))
 }
 
 /// The same clients.
-pub(crate) fn copied_clients<A: Allocator + Copy>(alloc: A, clients: &Row<ClientState, A>) -> Result<Row<ClientState, A>, AllocError>
+pub(crate) fn copied_clients<A: Allocator + Copy>(
+    alloc: A,
+    clients: &Row<ClientState, A>,
+) -> Result<Row<ClientState, A>, AllocError>
     ensures { IfOk result (λ row. row ≡ clients.now) }
 {
     Ok(Row::from_vec(Vec::from_slice(alloc, clients.as_slice())?))
 }
 
 /// The same robot.
-pub(crate) fn copied_robot<A: Allocator + Copy>(alloc: A, robot: &RobotState<A>) -> Result<RobotState<A>, AllocError>
+pub(crate) fn copied_robot<A: Allocator + Copy>(
+    alloc: A,
+    robot: &RobotState<A>,
+) -> Result<RobotState<A>, AllocError>
     ensures { IfOk result (λ copy. copy ≡ robot.now) }
 {
     Ok(RobotState {
@@ -36,7 +45,10 @@ pub(crate) fn copied_robot<A: Allocator + Copy>(alloc: A, robot: &RobotState<A>)
 }
 
 /// The same robot under the same number.
-pub(crate) fn copied_seat<A: Allocator + Copy>(alloc: A, seat: &Seat<A>) -> Result<Seat<A>, AllocError>
+pub(crate) fn copied_seat<A: Allocator + Copy>(
+    alloc: A,
+    seat: &Seat<A>,
+) -> Result<Seat<A>, AllocError>
     ensures { IfOk result (λ copy. copy ≡ seat.now) }
 {
     Ok(Seat {
@@ -46,7 +58,10 @@ pub(crate) fn copied_seat<A: Allocator + Copy>(alloc: A, seat: &Seat<A>) -> Resu
 }
 
 /// The same robots.
-pub(crate) fn copied_seats<A: Allocator + Copy>(alloc: A, seats: &[Seat<A>]) -> Result<Vec<Seat<A>, A>, AllocError>
+pub(crate) fn copied_seats<A: Allocator + Copy>(
+    alloc: A,
+    seats: &[Seat<A>],
+) -> Result<Vec<Seat<A>, A>, AllocError>
     ensures { IfOk result (λ copies. copies.items ≡ seats.now) }
 {
     let mut copies = Vec::with_capacity(alloc, seats.len())?;

@@ -143,7 +143,13 @@ impl<A: Allocator + Copy> Site<A> {
             unreachable!()
         };
         let which = Other { client, number };
-        cut(alloc, &mut self.seats[robot].robot, robot as u32, &which, dropped)
+        cut(
+            alloc,
+            &mut self.seats[robot].robot,
+            robot as u32,
+            &which,
+            dropped,
+        )
     }
 
     /// Makes a change that can be made.

@@ -39,7 +39,11 @@ pub(crate) fn is_floor_letter(letter: u8) -> bool
 }
 
 /// The letters, where each robot that is held stands on its cell like a wall.
-fn walled<A: Allocator + Copy>(alloc: A, letters: &[u8], seats: &[Seat<A>]) -> Result<Vec<u8, A>, AllocError>
+fn walled<A: Allocator + Copy>(
+    alloc: A,
+    letters: &[u8],
+    seats: &[Seat<A>],
+) -> Result<Vec<u8, A>, AllocError>
     ensures { IfOk result (λ copy. copy.items ≡ walled letters.now seats.now) }
 {
     let mut copy = Vec::from_slice(alloc, letters)?;

@@ -1,13 +1,11 @@
 //! A site after changes, and what its fleet goes on with.
 
-ghost use Rattle.std.specs.Prelude.{◌≡◌, ◌++◌, ◌⊎◌, [], IfErr, IfOk, OnOk};
+ghost use Rattle.std.specs.Prelude.{◌≡◌, ◌++◌, IfErr, IfOk, OnOk};
 ghost use Rattle.fleet_refit.specs.Changed.{AreMade};
 ghost use Rattle.fleet_refit.specs.Map.{plan_map};
-ghost use Rattle.fleet_refit.specs.Opening.{moving_numbers, opening_of};
-ghost use Rattle.fleet_refit.specs.Refit.{AreRefused, IsRefit};
+ghost use Rattle.fleet_refit.specs.Refit.{AreRefused, IsHanded, IsRefit, IsUnopened};
 ghost use Rattle.fleet_refit.specs.Settled.{AreSettled};
 ghost use Rattle.fleet_refit.specs.Site.{with_seats};
-ghost use Rattle.fleet_refit.specs.declared.refit.RefitFault.TheVariants.{NoMemory, NoRobot};
 
 use crate::change::{Change, ChangeFault, Dropped};
 use crate::reached::settle_all;
@@ -87,7 +85,9 @@ impl<A: Allocator + Copy> Site<A> {
         ensures made { IfOk result (λ site. (gone : _) × AreMade self.now changes.now site gone × (dropped.new.items ≡ dropped.old.items ++ gone)) }
         ensures refused { IfErr result (AreRefused self.now changes.now) }
     {
-        let mut site = self.copied(alloc)?;
+        let Ok(mut site) = self.copied(alloc) else {
+            return Err(RefitFault::NoMemory);
+        };
         match site.make_all(alloc, changes, dropped) {
             Ok(()) => Ok(site),
             Err(fault) => Err(fault),
@@ -114,7 +114,9 @@ impl<A: Allocator + Copy> Site<A> {
     {
         let mut dropped = Vec::new(alloc);
         let mut site = self.changed(alloc, changes, &mut dropped)?;
-        let grid = site.settled(alloc, &mut dropped)?;
+        let Ok(grid) = site.settled(alloc, &mut dropped) else {
+            return Err(RefitFault::NoMemory);
+        };
         handed(alloc, site, grid, dropped)
     }
 }
@@ -126,16 +128,18 @@ fn handed<A: Allocator + Copy>(
     grid: Grid<A>,
     dropped: Vec<Dropped, A>,
 ) -> Result<Refit<A>, RefitFault>
-    ensures site { IfOk result (λ r. (r.site ≡ site) × (r.grid ≡ grid) × (r.dropped.items ≡ dropped.items)) }
-    ensures opening { IfOk result (λ r. r.opening ≡ opening_of site) }
-    ensures numbers { IfOk result (λ r. r.numbers.items ≡ moving_numbers site.seats) }
-    ensures refused { IfErr result (λ why. (why ≡ NoMemory) ⊎ ((why ≡ NoRobot) × (moving_numbers site.seats ≡ []))) }
+    ensures handed { IfOk result (IsHanded site grid dropped.items) }
+    ensures refused { IfErr result (IsUnopened site.seats) }
 {
-    let numbers = site.numbers(alloc)?;
-    if numbers.is_empty() {
+    let Ok(numbers) = site.numbers(alloc) else {
+        return Err(RefitFault::NoMemory);
+    };
+    if numbers.len() == 0 {
         return Err(RefitFault::NoRobot);
     }
-    let opening = site.opening(alloc)?;
+    let Ok(opening) = site.opening(alloc) else {
+        return Err(RefitFault::NoMemory);
+    };
     Ok(Refit {
         site,
         grid,
@@ -143,12 +147,4 @@ fn handed<A: Allocator + Copy>(
         numbers,
         dropped,
     })
-}
-
-impl From<AllocError> for RefitFault {
-    fn from(_: AllocError) -> RefitFault
-        ensures { result ≡ NoMemory }
-    {
-        RefitFault::NoMemory
-    }
 }

@@ -1,7 +1,7 @@
 //! A site between two chapters of its fleet.
 
-ghost use Rattle.std.specs.Prelude.{◌≡◌, ◌≤◌, IfOk, length, map};
-ghost use Rattle.fleet_grid.specs.Floor.{HasForm, floor_of};
+ghost use Rattle.std.specs.Prelude.{◌≡◌, ◌*◌, ◌≤◌, IfOk, length, map};
+ghost use Rattle.fleet_grid.specs.Floor.{floor_of};
 ghost use Rattle.fleet_refit.specs.Site.{first_site, moving};
 
 use crate::copying::{copied_clients, copied_robot, copied_seats};
@@ -57,7 +57,9 @@ fn moving_seats<A: Allocator + Copy>(
 impl<A: Allocator + Copy> Site<A> {
     /// The site of a fleet in which all robots move: its map, and the opening of its next chapter.
     pub fn new(map: MapText<A>, opening: &Opening<A>) -> Result<Site<A>, AllocError>
-        requires form { HasForm (floor_of map.height map.width map.cells.items) }
+        requires low { map.height ≤ 1024 }
+        requires slim { map.width ≤ 1024 }
+        requires covered { length map.cells.items ≡ map.height * map.width }
         requires few { length opening.now.robots ≤ 512 }
         ensures { IfOk result (λ site. site ≡ first_site (floor_of map.height map.width map.cells.items) opening.now) }
     {

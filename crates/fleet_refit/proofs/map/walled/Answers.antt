@@ -8,8 +8,8 @@ pub loop-place-preserved : goal.loop-place-preserved
 loop-place-preserved g c = elim c.if-is_held.branch [
   | then-is_held w ↦ ap (λ v. v.items) w.copy-is ∙ w.put.ensures ∙
       walled-held c.args.letters.now c.loop-place.copy.items c.args.seats.now c.loop-place.place c.index-seats-place.result c.loop-place.invariant c.loop-place-test.true c.index-seats-place.is
-          (sym c.is_held.ensures ∙ w.if-is_held.true)
+      (sym c.is_held.ensures ∙ w.if-is_held.true)
   | else-is_held w ↦ ap (λ v. v.items) w.copy-is ∙
       walled-other c.args.letters.now c.loop-place.copy.items c.args.seats.now c.loop-place.place c.index-seats-place.result c.loop-place.invariant c.loop-place-test.true c.index-seats-place.is
-          (sym c.is_held.ensures ∙ w.if-is_held.false)
+      (sym c.is_held.ensures ∙ w.if-is_held.false)
 ]

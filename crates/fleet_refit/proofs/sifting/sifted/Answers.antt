@@ -23,14 +23,14 @@ loop-place-preserved g c =
     let on : Lists S robot (taken ++ e ∷ []) c.if-stays.kept.items before c.if-stays.dropped.items = elim c.if-stays.branch [
       | then-stays+in_ok-push w ↦
           subst (λ v. Lists S robot (taken ++ e ∷ []) c.if-stays.kept.items before v.items) (sym w.dropped-is)
-              (subst (λ v. Lists S robot (taken ++ e ∷ []) v.items before c.loop-place.dropped.items) (sym w.kept-is)
-                  (subst (λ l. Lists S robot (taken ++ e ∷ []) l before c.loop-place.dropped.items) (sym w.in_ok-push.ensures.items)
-                      (lists-kept S robot taken c.loop-place.kept.items before c.loop-place.dropped.items e c.loop-place.invariant (c.stays.ensures.0 w.if-stays.true))))
+          (subst (λ v. Lists S robot (taken ++ e ∷ []) v.items before c.loop-place.dropped.items) (sym w.kept-is)
+          (subst (λ l. Lists S robot (taken ++ e ∷ []) l before c.loop-place.dropped.items) (sym w.in_ok-push.ensures.items)
+          (lists-kept S robot taken c.loop-place.kept.items before c.loop-place.dropped.items e c.loop-place.invariant (c.stays.ensures.0 w.if-stays.true))))
       | else-stays+in_ok-push-2 w ↦
           subst (λ v. Lists S robot (taken ++ e ∷ []) v.items before c.if-stays.dropped.items) (sym w.kept-is)
-              (subst (λ v. Lists S robot (taken ++ e ∷ []) c.loop-place.kept.items before v.items) (sym w.dropped-is)
-                  (subst (λ l. Lists S robot (taken ++ e ∷ []) c.loop-place.kept.items before l) (sym w.in_ok-push-2.ensures.items)
-                      (subst (λ d. Lists S robot (taken ++ e ∷ []) c.loop-place.kept.items before (c.loop-place.dropped.items ++ d ∷ [])) (sym w.dropped_of.ensures)
-                          (lists-dropped S robot taken c.loop-place.kept.items before c.loop-place.dropped.items e c.loop-place.invariant (iff_false c.stays.ensures w.if-stays.false)))))
+          (subst (λ v. Lists S robot (taken ++ e ∷ []) c.loop-place.kept.items before v.items) (sym w.dropped-is)
+          (subst (λ l. Lists S robot (taken ++ e ∷ []) c.loop-place.kept.items before l) (sym w.in_ok-push-2.ensures.items)
+          (subst (λ d. Lists S robot (taken ++ e ∷ []) c.loop-place.kept.items before (c.loop-place.dropped.items ++ d ∷ [])) (sym w.dropped_of.ensures)
+          (lists-dropped S robot taken c.loop-place.kept.items before c.loop-place.dropped.items e c.loop-place.invariant (iff_false c.stays.ensures w.if-stays.false)))))
     ] in
     subst (λ (l : List Errand). Lists S robot l c.if-stays.kept.items before c.if-stays.dropped.items) (sym (take_more c.args.errands.now c.loop-place.place _ c.loop-place-test.true)) on
