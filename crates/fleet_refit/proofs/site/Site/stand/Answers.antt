@@ -1,0 +1,8 @@
+-- The robot's standing alone changes.
+use Rattle.std.proofs.Common.{refl}
+use Rattle.fleet_refit.specs.Changed.{Stands}
+use Rattle.fleet_refit.proofs.Replaced.{replaced}
+use Rattle.fleet_refit.proofs.site.Site.stand.Goals as goal
+
+pub returns : goal.returns
+returns g c = replaced (Stands c.args.standing) _ _ c.args.robot c.index_mut.result.now _ c.self.view_is c.requires c.index_mut.ensures.value refl

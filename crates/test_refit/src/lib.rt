@@ -1,0 +1,9 @@
+//! Tests of changes of a site.
+#![tactic(auto)]
+
+#[cfg(test)]
+mod changes;
+#[cfg(test)]
+mod faults;
+#[cfg(test)]
+mod sites;
