@@ -1,0 +1,9 @@
+pub use Rattle.fleet_grid.specs.Floor
+pub use Rattle.fleet_history.specs.History
+pub use Rattle.fleet_history.specs.Legal
+pub use Rattle.turns_law.specs.Turns
+pub use Rattle.turns_law.specs.Turn
+pub use Rattle.turns_law.specs.Fleet
+pub mod Fleets
+pub mod Kept
+pub mod Arriving
