@@ -1,7 +1,6 @@
 -- What is said where something is told of a map, and where nothing is.
 use Rattle.std.proofs.Common.{◌≡◌, ℕ, List, Option, [], refl, string_bytes}
 use Rattle.std.proofs.lemmas.Result.{IfOk-weaker}
-use Rattle.std.specs.Option.{option_copied}
 use Rattle.fleet_survey.specs.Answer.{IsTold}
 use Rattle.fleet_survey.specs.declared.answer.SurveyForm.{SurveyForm}
 use Rattle.fleet_lib.specs.Said.{Outcome}
@@ -14,7 +13,7 @@ outcome form n map cells text out o is made said = told text is (rw (← made) s
 
 pub returns-in-Ok : goal.returns-in-Ok
 returns-in-Ok c =
-    IfOk-weaker c.printed.result _ _ (λ s e. outcome c.args.form c.args.robots c.args.map.now (option_copied c.args.cells.entry) (string_bytes c.in-Ok.text) c.as_str.result.now _ c.in-Ok.ensures.told c.as_str.ensures.value e) c.printed.ensures
+    IfOk-weaker c.printed.result _ _ (λ s e. outcome c.args.form c.args.robots c.args.map.now _ (string_bytes c.in-Ok.text) c.deref.result.now _ c.in-Ok.ensures.told c.deref.ensures.value e) c.printed.ensures
 
 pub returns-in-Err : goal.returns-in-Err
 returns-in-Err c = IfOk-weaker c.faulty.result _ _ (λ s e. refused c.in-Err.fault c.in-Err.ensures.refused e) c.faulty.ensures
