@@ -1,0 +1,12 @@
+-- So many orders were judged.
+use Rattle.std.proofs.Common.{◌≡◌, List, vec_len}
+use Rattle.live_fleet.specs.Act.{Act}
+use Rattle.live_fleet.specs.Went.{At, at_of}
+use Rattle.live_fleet.proofs.Ended.{Closing}
+use Rattle.live_fleet.proofs.ending.take_left.Given as goal
+
+abbrev pub invariant-loop : goal.invariant-loop
+invariant-loop g l = record {
+  closing : (acts : List Act) × Closing l.fn.client l.counter (at_of l.fn.fleet l.fn.out) acts (at_of l.fleet l.out);
+  count : vec_len l.out.texts ≡ vec_len l.fn.out.texts;
+}
