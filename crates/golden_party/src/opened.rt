@@ -77,7 +77,7 @@ fn goes_on(
 ) -> Result<Option<(Session, UnroomyCells)>, AllocError> {
     let settings = Settings {
         marks: false,
-        roll: true,
+        roll: None,
         roomy,
     };
     match world_with_door(alloc, ground, chapter, settings) {
