@@ -62,3 +62,7 @@ pub say-of : {T E : Type 0} (r : Result T E) (k : ℕ) (text : List ℕ) (s t : 
 say-of (Ok v) k text s t read new inside fleet is less at same answers = λ sp there.
     answers-of k sp text s t new.rest inside fleet answers (is ∙ with-new (with_at s t.at) k sp read new new.rest (read-there s.speakers k read sp less at there) same)
 say-of (Err e) k text s t read new inside fleet is less at same answers = tt
+
+-- the same answer
+pub answered-as : (k : ℕ) (sp : Speaker) (text same : List ℕ) (s t : Stage) → text ≡ same → ((acts : List Act) × Answers k sp text s acts t) → (acts : List Act) × Answers k sp same s acts t
+answered-as k sp text same s t is it = subst (λ (l : List ℕ). (acts : List Act) × Answers k sp l s acts t) is it

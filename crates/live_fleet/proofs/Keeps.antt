@@ -22,13 +22,13 @@ use Rattle.live_fleet.specs.Answering.{Answers, at_once, waits}
 use Rattle.live_fleet.specs.Asking.{Grants, ShutsOne, TurnsChapter}
 use Rattle.live_fleet.specs.Asking as asking
 use Rattle.live_fleet.specs.Does.{Does, HandsDue, MakesTurn, Plays, ShowsTurn}
-use Rattle.live_fleet.specs.Ending.{Ends, TakesLeft}
+use Rattle.live_fleet.specs.Ending.{Ends, TakesLeft, at_end}
 use Rattle.live_fleet.specs.Hearing.{HearsLine, IfOwn, Obeys, Opens, is_own}
 use Rattle.live_fleet.specs.Open.{is_open}
 use Rattle.live_fleet.specs.Party.{Heard, Stage, with_at, with_rest, with_speaker, resting}
 use Rattle.live_fleet.specs.Party as heard
 use Rattle.live_fleet.specs.Posting.{Posts, SettlesAll, SettlesIf}
-use Rattle.live_fleet.specs.Resting.{Continues, GoesOn, KeptAt, KeptFor, NotesKept, TellsRest, TicksOnce, TicksThen, goes_on}
+use Rattle.live_fleet.specs.Resting.{Continues, EndsAnswer, GoesOn, KeptAt, KeptFor, NotesKept, TellsRest, TicksOnce, TicksThen, goes_on}
 use Rattle.live_fleet.specs.Resting as resting_as
 use Rattle.live_fleet.specs.Stepping.{HandsOut, StepsOn}
 use Rattle.live_fleet.specs.Taking.{Takes, TakesOne}
@@ -211,7 +211,7 @@ opens-keeps k sp mark client s acts t opens =
 ends-keeps : (s : Stage) (acts : List Act) (t : Stage) → Ends s acts t → Keeps s acts t
 ends-keeps s acts t ends = record {
   went = each-went TakesLeft (λ n a acts b one. one.went) (range_with_len 0 s.clients) s.at acts t.at ends.takes;
-  speakers = ap (λ (x : Stage). length x.speakers) ends.same ∙ length-map s.speakers (λ (sp : Speaker). resting sp rest.Ending);
+  speakers = ap (λ (x : Stage). length x.speakers) ends.same ∙ length-map s.speakers at_end;
   notes = ap (λ (x : Stage). length x.notes) ends.same;
   clients = ap (λ (x : Stage). x.clients) ends.same;
   refused = ap (λ (x : Stage). x.refused) ends.same;
@@ -281,6 +281,20 @@ each_keeps P one (n ∷ numbers) s acts t parts =
 
 -- ---- events
 
+-- after what a stage keeps one conversation is changed
+keeps_after : (s m t : Stage) (acts : List Act) (k : ℕ) (sp : Speaker) → Keeps s acts m → t ≡ with_speaker m k sp → Keeps s acts t
+keeps_after s m t acts k sp keeps same = record {
+  went = subst (λ (a : At). Went s.at acts a) (sym (ap (λ (x : Stage). x.at) same)) keeps.went;
+  speakers = ap (λ (x : Stage). length x.speakers) same ∙ (length-set m.speakers k sp ∙ keeps.speakers);
+  notes = ap (λ (x : Stage). length x.notes) same ∙ keeps.notes;
+  clients = ap (λ (x : Stage). x.clients) same ∙ keeps.clients;
+  refused = ap (λ (x : Stage). x.refused) same ∙ keeps.refused;
+}
+
+ends_answer : (is : Bool) (k : ℕ) (s m t : Stage) (acts : List Act) → Keeps s acts m → EndsAnswer is k m t → Keeps s acts t
+ends_answer true k s m t acts keeps (sp, at, same) = keeps_after s m t acts k (at_end sp) keeps same
+ends_answer false k s m t acts keeps same = subst (λ (x : Stage). Keeps s acts x) (sym same) keeps
+
 shows_turn : (is : Bool) (s : Stage) (acts : List Act) (t : Stage) → ShowsTurn is s acts t → Keeps s acts t
 shows_turn true s acts t (shows, same) = keeps_at s t acts (shows-went s.speakers s.at acts t.at shows) same
 shows_turn false s acts t (none, same) = record {
@@ -298,7 +312,7 @@ hands_due false s acts t (is, hands, same) = keeps_at s t acts (hands-went is s.
 pub does-keeps : (s : Stage) (event : Heard) (acts : List Act) (t : Stage) → Does s event acts t → Keeps s acts t
 does-keeps s (heard.line from bytes) acts t hears = keeps_from s t acts from hears.speaker (obeys-keeps from hears.speaker hears.line _ (with_speaker s from hears.speaker) acts t hears.obeys)
 does-keeps s (heard.room to) acts t (tells, same) = keeps_at s t acts (tells-at-went s.speakers to s.at acts t.at tells) same
-does-keeps s (heard.rest from) acts t (sp, at, continues) = continues-keeps sp.rest from sp s acts t continues
+does-keeps s (heard.rest from) acts t (mid, (sp, at, continues), ends) = ends_answer mid.has_ended from s mid t acts (continues-keeps sp.rest from sp s acts mid continues) ends
 does-keeps s heard.turn acts t turns =
     keeps_then s turns.mid t acts turns.first turns.second turns.parts (keeps_at s turns.mid turns.first (turns-went s.speakers s.clients turns.reply s.at turns.first turns.mid.at turns.turns) turns.same)
     (shows_turn (is_ticked turns.reply) turns.mid turns.second t turns.shows)

@@ -1,4 +1,5 @@
 pub mod Going
+pub mod Short
 pub mod Parts
 pub mod Texts
 pub mod Rolling
@@ -12,5 +13,7 @@ pub mod Ended
 pub mod Rested
 pub mod Laws
 pub mod Whole
+pub mod Whose
+pub mod Once
 pub mod Heard
 mod Looks

@@ -1,5 +1,6 @@
 -- Posts, and shuts.
-use Rattle.std.proofs.Common.{◌≡◌, ◌∙◌, ℕ, ◌+◌, ◌≤◌, ◌<◌, Bool, true, false, ◌||◌, List, [], ◌∷◌, ◌++◌, length, Option, Some, None, Result, Ok, Err, refl, sym, ap, subst, arith}
+use Rattle.std.proofs.Common.{◌≡◌, ◌∙◌, ℕ, ◌+◌, ◌≤◌, ◌<◌, Bool, true, false, ◌||◌, List, [], ◌∷◌, ◌++◌, length, get_or, Option, Some, None, Result, Ok, Err, refl, sym, ap, subst, arith}
+use Rattle.std.proofs.lemmas.Option.{slice_get_read}
 use Rattle.std.specs.Prelude.{IsTrue, ◌↔◌, OnOk, slice_get, slice_set}
 use Rattle.std.specs.Result.{is_ok}
 use Rattle.std.specs.declared.alloc.Global.{Global}
@@ -22,6 +23,7 @@ use Rattle.live_fleet.specs.Out.{Out}
 use Rattle.live_fleet.specs.Party.{Stage, with_at}
 use Rattle.live_fleet.specs.Posting.{AreSpent, IsPosted, Posts, SettlesAll, SettlesIf, closed, full, is_close, ok, spent}
 use Rattle.live_fleet.specs.Went.{At, Went}
+use Rattle.live_fleet.proofs.Answered.{answered-as}
 use Rattle.live_fleet.proofs.Going.{went-did, went-none}
 use Rattle.live_fleet.specs.Asking.{IsShutResult, Shuts}
 use Rattle.live_fleet.specs.Stepping.{StepsOn}
@@ -90,6 +92,15 @@ posts-of k sp mark client order posted note new s one two t first known is met o
     parts = refl;
   },
 )
+
+-- the same, from what each call says
+pub posts-from : (k : ℕ) (sp : Speaker) (mark : Option (List ℕ)) (client : ℕ) (order : Order) (text line : List ℕ) (said : Bool) (note new : Note) (s one two t : Stage) → client < length s.notes → note ≡ get_or s.notes client note
+    → ((posted : Result ℕ PostFault) × (acts : List Act) × IsPosted client order posted note new s.at.fleet.talk acts one.at.fleet.talk × (text ≡ post_text client posted) × (said ≡ is_ok posted)) → one.at.fleet.met ≡ s.at.fleet.met → one.at.out ≡ s.at.out
+    → one ≡ record s { at = one.at; notes = slice_set s.notes client new } → line ≡ text → ((acts : List Act) × Answers k sp (marked mark line) one acts two)
+    → ((posted : Result ℕ PostFault) → said ≡ is_ok posted → (acts : List Act) × SettlesIf posted two acts t) → (acts : List Act) × Posts k sp mark client order s acts t
+posts-from k sp mark client order text line said note new s one two t inside at (posted, first, is, told, good) met out same shown answers settles =
+    posts-of k sp mark client order posted note new s one two t first (slice_get_read s.notes (length s.notes) client note refl inside at) is met out same
+    (answered-as k sp (marked mark line) (marked mark (post_text client posted)) one two (ap (marked mark) (shown ∙ told)) answers) (settles posted good)
 
 -- the numbers are not spent
 pub not-spent : (order : Order) (note : Note) (s : Talk Global) (limits : Limits) (spent_now : Bool) → limits ≡ s.world.limits → (IsTrue spent_now ↔ ((is_close order ≡ false) × (limits.orders ≤ note.last + 1))) → spent_now ≡ false

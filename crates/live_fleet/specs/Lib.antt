@@ -7,6 +7,7 @@ pub mod Telling
 pub mod Taking
 pub mod Turning
 pub mod Look
+pub mod Length
 pub mod Party
 pub mod Answering
 pub mod Ending

@@ -14,7 +14,8 @@ use Rattle.live_fleet.specs.declared.speaker.Speaker.{Speaker}
 use Rattle.live_fleet.specs.Act.{Act}
 use Rattle.live_fleet.specs.Answering.{Answers, AnswersIn, mark_kept}
 use Rattle.live_fleet.specs.Out.{Out, IsFull, text_at}
-use Rattle.live_fleet.specs.Party.{Stage, with_at, with_rest}
+use Rattle.live_fleet.specs.Ending.{at_end}
+use Rattle.live_fleet.specs.Party.{Stage, with_at, with_rest, with_speaker}
 use Rattle.live_fleet.specs.Telling.{TellsClients, TellsWhole}
 use Rattle.live_fleet.specs.Turning.{SaysOrNot, SaysThat, Shows, Turns, is_ticked, tick_answer}
 use Rattle.live_fleet.specs.Went.{At, Each}
@@ -84,8 +85,16 @@ Continues rest.Ending k sp s acts t = TellsRest k sp s acts t
 Continues rest.Ended k sp s acts t = (acts ≡ []) × (t ≡ s)
 
 -- one turn is made for a conversation, or one line of its answer is said
+abbrev pub GoesOnce : ℕ → Stage → List Act → Stage → Type 0
+GoesOnce k s acts t = (sp : Speaker) × (slice_get s.speakers k ≡ Some sp) × Continues sp.rest k sp s acts t
+
+-- once the fleet has ended, a conversation whose answer is said is told what is left
+abbrev pub EndsAnswer : (has_ended : Bool) → ℕ → Stage → Stage → Type 0
+EndsAnswer true k s t = (sp : Speaker) × (slice_get s.speakers k ≡ Some sp) × (t ≡ with_speaker s k (at_end sp))
+EndsAnswer false k s t = t ≡ s
+
 abbrev pub GoesOn : ℕ → Stage → List Act → Stage → Type 0
-GoesOn k s acts t = (sp : Speaker) × (slice_get s.speakers k ≡ Some sp) × Continues sp.rest k sp s acts t
+GoesOn k s acts t = (mid : Stage) × GoesOnce k s acts mid × EndsAnswer mid.has_ended k mid t
 
 -- the next line of a list is said if there is room
 abbrev pub ListsOn : ℕ → Listing → Out → Out → Rest → Type 0

@@ -6,10 +6,9 @@ ghost use Rattle.fleet_core.specs.Core.{HasNoRoom, widened};
 ghost use Rattle.fleet_history.specs.History.{clients};
 ghost use Rattle.fleet_world.specs.Keeps.{talk};
 ghost use Rattle.fleet_world.specs.Talk.{talk_of};
-ghost use Rattle.live_fleet.specs.declared.rest.Rest.TheVariants.{Ending};
 ghost use Rattle.live_fleet.specs.Act.{Act};
-ghost use Rattle.live_fleet.specs.Ending.{Ends, TakesLeft, TakesNext, wants_mailbox};
-ghost use Rattle.live_fleet.specs.Party.{resting, stage_of};
+ghost use Rattle.live_fleet.specs.Ending.{Ends, TakesLeft, TakesNext, at_end, missing_room, wants_mailbox};
+ghost use Rattle.live_fleet.specs.Party.{stage_of};
 ghost use Rattle.live_fleet.specs.Went.{Each, at_of};
 
 use crate::open_fleet::OpenFleet;
@@ -24,15 +23,18 @@ use fleet_core::TakeFault;
 use fleet_world::{Reply, Session};
 use std::alloc::{Alloc, AllocError, Global};
 
-/// Gives a client's mailbox room for one more order. It had none, and holds little: no mailbox holds much.
+/// Gives a client's mailbox room for the next order. It had none, and holds little: no mailbox holds much.
 fn make_room(session: &mut Session, client: u32) -> Result<(), AllocError>
     requires number { 0 ≤ session.old.world.core.number }
     requires there { client < clients session.old.world.core.history }
     requires full { HasNoRoom session.old.world.core client }
-    ensures { OnOk result (talk session.new ≡ talk_of (widened session.old.world.core client 2) session.old.waiting.items) }
+    ensures { OnOk result (talk session.new ≡ talk_of (widened session.old.world.core client (missing_room session.old.world.core client)) session.old.waiting.items) }
 {
     let _chapter = session.world.chapter();
-    session.world.widen(client, 2)
+    let core = &session.world.core;
+    let wanted = core.pending_count(client) as u64 + core.owed(client) + 2;
+    let limit = core.room_of(client);
+    session.world.widen(client, wanted - limit)
 }
 
 /// Whether an order was refused because the mailbox has no room.
@@ -54,11 +56,12 @@ fn take_next<R: Alloc<A = Global>>(
     ensures count { vec_len out.new.texts ≡ vec_len out.old.texts }
 {
     let reply = step_on(rt, fleet, out, Event::Take(client))?;
-    if wants_mailbox(reply) {
-        make_room(&mut fleet.session, client)?;
-        return Ok(true);
+    if !wants_mailbox(reply) {
+        return Ok(is_took(reply));
     }
-    Ok(is_took(reply))
+    make_room(&mut fleet.session, client)?;
+    let again = step_on(rt, fleet, out, Event::Take(client))?;
+    Ok(is_took(again))
 }
 
 /// Judges all orders of a client that wait.
@@ -72,11 +75,7 @@ fn take_left<R: Alloc<A = Global>>(
     ensures ok { OnOk result ((acts : List Act) × TakesLeft client (at_of fleet.old out.old) acts (at_of fleet.new out.new)) }
     ensures count { vec_len out.new.texts ≡ vec_len out.old.texts }
 {
-    for _ in 0..u64::MAX {
-        if !take_next(rt, fleet, out, client)? {
-            return Ok(());
-        }
-    }
+    while take_next(rt, fleet, out, client)? {}
     Ok(())
 }
 
@@ -97,12 +96,22 @@ fn take_all_left<R: Alloc<A = Global>>(
     Ok(())
 }
 
-/// From now on conversations are told what is left, and nothing else.
+/// From now on a conversation is told what is left, after what waits of its last answer.
+pub(crate) fn end_answer(speaker: &mut Speaker)
+    ensures { speaker.new ≡ at_end speaker.old }
+{
+    if speaker.rest.stays_at_end() {
+        return;
+    }
+    speaker.rest = Rest::Ending;
+}
+
+/// From now on conversations are told what is left.
 fn end_answers(speakers: &mut [Speaker])
-    ensures { speakers.new ≡ map (λ sp. resting sp Ending) speakers.old }
+    ensures { speakers.new ≡ map at_end speakers.old }
 {
     for to in 0..speakers.len() {
-        speakers[to].rest = Rest::Ending;
+        end_answer(&mut speakers[to]);
     }
 }
 

@@ -8,6 +8,7 @@ mod cue;
 mod ending;
 mod hearing;
 mod law;
+mod length;
 mod line;
 mod listing;
 mod look;
@@ -26,7 +27,10 @@ mod telling;
 mod turning;
 
 pub use cue::Cue;
-pub use law::{histories_follow_one_another, whatever_it_hears_is_a_run};
+pub use law::{
+    histories_are_safe, histories_follow_one_another, notices_are_told_once, notices_are_told_to_their_own,
+    whatever_it_hears_is_a_run,
+};
 pub use notes::Note;
 pub use open_fleet::OpenFleet;
 pub use outboxes::{MOST_TEXT, Outboxes};

@@ -9,11 +9,12 @@ ghost use Rattle.live_fleet.specs.Act.{Act};
 ghost use Rattle.live_fleet.specs.Answering.{Answers, mark_kept};
 ghost use Rattle.live_fleet.specs.Open.{is_ending, turns_left};
 ghost use Rattle.live_fleet.specs.Party.{stage_of};
-ghost use Rattle.live_fleet.specs.Resting.{Continues, GoesOn, NotesKept, ShowsOn, TellsRest, TicksOnce, goes_on};
+ghost use Rattle.live_fleet.specs.Resting.{Continues, GoesOn, GoesOnce, NotesKept, ShowsOn, TellsRest, TicksOnce, goes_on};
 ghost use Rattle.live_fleet.specs.Turning.{tick_answer};
 ghost use Rattle.fleet_world.specs.Keeps.{talk};
 
 use crate::answering::{answer, mark_in};
+use crate::ending::end_answer;
 use crate::outboxes::Outboxes;
 use crate::party::Party;
 use crate::rest::Rest;
@@ -45,6 +46,7 @@ impl Party {
         requires texts { vec_len self.old.speakers ≤ vec_len out.old.texts }
         ensures ok { OnOk result ((sp : Speaker) (mark : Option (Vec ℕ Global)) (before : ℕ) → slice_get self.old.speakers.items to ≡ Some sp → sp.rest ≡ Ticking mark before →
             (acts : List Act) × ShowsOn to sp mark left (stage_of self.old out.old) acts (stage_of self.new out.new)) }
+        ensures speakers { vec_len self.new.speakers ≡ vec_len self.old.speakers }
     {
         show_tick(alloc, &self.fleet, out, &self.speakers)?;
         set_left(&mut self.speakers[to], left);
@@ -64,6 +66,7 @@ impl Party {
         requires texts { vec_len self.old.speakers ≤ vec_len out.old.texts }
         ensures ok { OnOk result ((sp : Speaker) (mark : Option (Vec ℕ Global)) (before : ℕ) → slice_get self.old.speakers.items to ≡ Some sp → sp.rest ≡ Ticking mark before →
             (acts : List Act) × Answers to sp (marked (mark_kept mark) (tick_answer (talk self.old.fleet.session) reply)) (stage_of self.old out.old) acts (stage_of self.new out.new)) }
+        ensures speakers { vec_len self.new.speakers ≡ vec_len self.old.speakers }
     {
         let text = tick_answer(alloc, &self.fleet.session, reply)?;
         let speaker = &mut self.speakers[to];
@@ -84,6 +87,7 @@ impl Party {
         requires texts { vec_len self.old.speakers ≤ vec_len out.old.texts }
         ensures ok { OnOk result ((sp : Speaker) (mark : Option (Vec ℕ Global)) → slice_get self.old.speakers.items to ≡ Some sp → sp.rest ≡ Ticking mark left →
             (acts : List Act) × TicksOnce to sp mark left (stage_of self.old out.old) acts (stage_of self.new out.new)) }
+        ensures speakers { vec_len self.new.speakers ≡ vec_len self.old.speakers }
     {
         let reply = turn(rt, &mut self.fleet, out, &self.speakers, self.clients)?;
         if goes_on(reply, left) {
@@ -104,6 +108,7 @@ impl Party {
         requires texts { vec_len self.old.speakers ≤ vec_len out.old.texts }
         ensures ok { OnOk result ((sp : Speaker) → slice_get self.old.speakers.items to ≡ Some sp →
             (acts : List Act) × TellsRest to sp (stage_of self.old out.old) acts (stage_of self.new out.new)) }
+        ensures speakers { vec_len self.new.speakers ≡ vec_len self.old.speakers }
     {
         let clients = self.speakers[to].clients;
         if !tell_clients(rt, &mut self.fleet, out, to, clients)? {
@@ -124,8 +129,31 @@ impl Party {
         requires texts { vec_len self.old.speakers ≤ vec_len out.old.texts }
         ensures ok { OnOk result ((sp : Speaker) → slice_get self.old.speakers.items to ≡ Some sp → turns_left sp.rest ≡ None → is_ending sp.rest ≡ false →
             (acts : List Act) × Continues sp.rest to sp (stage_of self.old out.old) acts (stage_of self.new out.new)) }
+        ensures speakers { vec_len self.new.speakers ≡ vec_len self.old.speakers }
     {
         say_on(alloc, out, to, &mut self.speakers[to])
+    }
+
+    /// Makes one turn for a conversation, or says one line of its answer.
+    fn go_once<R: Alloc<A = Global>>(
+        &mut self,
+        rt: &R,
+        out: &mut Outboxes,
+        from: usize,
+    ) -> Result<(), AllocError>
+        requires number { 0 ≤ self.old.fleet.session.world.core.number }
+        requires there { from < vec_len self.old.speakers }
+        requires texts { vec_len self.old.speakers ≤ vec_len out.old.texts }
+        ensures ok { OnOk result ((acts : List Act) × GoesOnce from (stage_of self.old out.old) acts (stage_of self.new out.new)) }
+        ensures speakers { vec_len self.new.speakers ≡ vec_len self.old.speakers }
+    {
+        if let Some(left) = self.speakers[from].rest.turns_left() {
+            return self.tick_on(rt, out, from, left);
+        }
+        if self.speakers[from].rest.is_ending() {
+            return self.tell_left(rt, out, from);
+        }
+        self.say_left(rt.alloc(), out, from)
     }
 
     /// Goes on with what is left of a conversation's answer: makes one turn, or says one line.
@@ -140,13 +168,11 @@ impl Party {
         requires texts { vec_len self.old.speakers ≤ vec_len out.old.texts }
         ensures ok { OnOk result ((acts : List Act) × GoesOn from (stage_of self.old out.old) acts (stage_of self.new out.new)) }
     {
-        if let Some(left) = self.speakers[from].rest.turns_left() {
-            return self.tick_on(rt, out, from, left);
+        self.go_once(rt, out, from)?;
+        if self.has_ended {
+            end_answer(&mut self.speakers[from]);
         }
-        if self.speakers[from].rest.is_ending() {
-            return self.tell_left(rt, out, from);
-        }
-        self.say_left(rt.alloc(), out, from)
+        Ok(())
     }
 
     /// Answers those that wait until this chapter is kept.

@@ -11,7 +11,7 @@ use std::alloc::{AllocError, Global};
 pub const MOST_TEXT: usize = 65_536;
 
 /// No notice has a longer line.
-pub(crate) const MOST_NOTICE: usize = 256;
+const MOST_NOTICE: usize = 256;
 
 /// The texts that wait for the readers of the conversations, and the chapters that were handed out.
 #[derive(Drop)]

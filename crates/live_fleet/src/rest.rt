@@ -2,6 +2,7 @@
 
 ghost use Rattle.std.specs.Prelude.{◌≡◌};
 ghost use Rattle.live_fleet.specs.Open.{is_done, is_ending, is_open, turns_left};
+ghost use Rattle.live_fleet.specs.Ending.{stays_at_end};
 
 use fleet_core::OpenErrand;
 
@@ -65,6 +66,14 @@ impl Rest {
             Rest::Ticking { left, .. } => Some(*left),
             _ => None,
         }
+    }
+
+    /// Whether it stays as it is at the end: an answer that waits for room is said yet, and where all was said nothing
+    /// is left.
+    pub(crate) fn stays_at_end(&self) -> bool
+        ensures { result ≡ stays_at_end self.now }
+    {
+        matches!(self, Rest::Line(_) | Rest::Listing(_) | Rest::Ended)
     }
 
     /// Whether what is left at the end is told.

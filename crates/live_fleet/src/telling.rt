@@ -7,8 +7,9 @@ ghost use Rattle.live_fleet.specs.Out.{IsFull, out_of, text_at};
 ghost use Rattle.live_fleet.specs.Telling.{TellsAll, collected_in, TellsClients, TellsNext, TellsOne, TellsTo, TellsWhole};
 ghost use Rattle.live_fleet.specs.Went.{at_of};
 
+use crate::length::note_length;
 use crate::open_fleet::OpenFleet;
-use crate::outboxes::{MOST_NOTICE, MOST_TEXT, Outboxes};
+use crate::outboxes::Outboxes;
 use crate::speaker::{Clients, Speaker};
 use fleet_book::{Event, Notice};
 use fleet_text::notice_line;
@@ -52,13 +53,9 @@ fn say_notice(
     ensures chapters { out.new.chapters ≡ out.old.chapters }
     ensures count { vec_len out.new.texts ≡ vec_len out.old.texts }
 {
+    note_length(client, notice);
     let line = notice_line(alloc, client, notice)?;
-    let text = line.as_bytes();
-    if text.len() > MOST_NOTICE {
-        // No notice has such a line.
-        return Err(AllocError);
-    }
-    out.say(to, text)
+    out.say(to, line.as_bytes())
 }
 
 /// Tells a client's next notice.

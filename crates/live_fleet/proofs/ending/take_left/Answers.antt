@@ -1,7 +1,7 @@
 -- One order after another was judged.
-use Rattle.std.proofs.Common.{◌≡◌, ◌∙◌, ◌≤◌, List, refl, sym, arith}
+use Rattle.std.proofs.Common.{◌≡◌, ◌∙◌, List, refl}
 use Rattle.live_fleet.specs.Went.{At, at_of}
-use Rattle.live_fleet.proofs.Ended.{closing-last, closing-many, closing-more, closing-none}
+use Rattle.live_fleet.proofs.Ended.{closing-fewer, closing-last, closing-more, closing-none}
 use Rattle.live_fleet.proofs.ending.take_left.Goals as goal
 
 pub loop-init : goal.loop-init
@@ -9,13 +9,13 @@ loop-init g c = record { closing = closing-none c.args.client (at_of c.args.flee
 
 pub loop-preserved : goal.loop-preserved
 loop-preserved g c = record {
-  closing = closing-more c.args.client c.loop.counter c.in_ok-take_next.field-0 (at_of c.args.fleet.now c.args.out.now) (at_of c.loop.fleet c.loop.out) (at_of c.take_next.new.fleet c.take_next.new.out) c.loop.invariant.closing c.in_ok-take_next.ensures.ok;
+  closing = closing-more c.args.client c.in_ok-take_next.field-0 (at_of c.args.fleet.now c.args.out.now) (at_of c.loop.fleet c.loop.out) (at_of c.take_next.new.fleet c.take_next.new.out) c.loop.invariant.closing c.in_ok-take_next.ensures.ok;
   count = c.take_next.ensures.count ∙ c.loop.invariant.count;
 }
 
-pub returns-then-not-branch-clause-ok : goal.returns-then-not-branch-clause-ok
-returns-then-not-branch-clause-ok g c =
-    closing-last c.args.client c.loop.counter c.in_ok-take_next.field-0 (at_of c.args.fleet.now c.args.out.now) (at_of c.loop.fleet c.loop.out) (at_of c.take_next.new.fleet c.take_next.new.out) c.loop.invariant.closing c.in_ok-take_next.ensures.ok c.if-not-branch.true
+pub loop-smaller : goal.loop-smaller
+loop-smaller g c = closing-fewer c.args.client c.in_ok-take_next.field-0 (at_of c.loop.fleet c.loop.out) (at_of c.take_next.new.fleet c.take_next.new.out) c.in_ok-take_next.ensures.ok c.loop-test.true
 
 pub returns-clause-ok : goal.returns-clause-ok
-returns-clause-ok g c = closing-many c.args.client c.loop.counter (at_of c.args.fleet.now c.args.out.now) (at_of c.loop.fleet c.loop.out) c.loop.invariant.closing (omega (arith, c.loop-test.false))
+returns-clause-ok g c =
+    closing-last c.args.client c.in_ok-take_next.field-0 (at_of c.args.fleet.now c.args.out.now) (at_of c.loop.fleet c.loop.out) (at_of c.take_next.new.fleet c.take_next.new.out) c.loop.invariant.closing c.in_ok-take_next.ensures.ok c.loop-test.false

@@ -3,6 +3,7 @@ use Rattle.std.proofs.Common.{◌∙◌, ◌<◌, ℕ, List, length, refl, sym, 
 use Rattle.std.proofs.lemmas.Result.{on_ok_weaker}
 use Rattle.fleet_talk.specs.Said.{under}
 use Rattle.fleet_talk.specs.Says.{marked}
+use Rattle.fleet_text.specs.Answers.{chapter_refused_line}
 use Rattle.live_fleet.specs.declared.rest.Rest.{Rest}
 use Rattle.live_fleet.specs.declared.rest.Rest.TheVariants.{Keeping}
 use Rattle.live_fleet.specs.Answering.{Answers}
@@ -39,6 +40,6 @@ returns g c =
       ok = on_ok_weaker c.say.result
           (λ it sp there. let (none, (last, is_none, stays)) = at-hand c.in_ok-hand_out.field-0 s.at after false c.in_ok-hand_out.ensures.ok c.if-branch.false in let (acts, answers) = it sp there in (
             acts,
-            asking.last last (subst (λ (a : At). Answers c.args.place.to sp (marked mark _) (with_at s a) acts t) stays (subst (λ (l : List ℕ). Answers c.args.place.to sp (marked mark l) (with_at s after) acts t) c.chapter_refused_line.ensures answers)),
+            asking.last last (subst (λ (a : At). Answers c.args.place.to sp (marked mark chapter_refused_line) (with_at s a) acts t) stays (subst (λ (l : List ℕ). Answers c.args.place.to sp (marked mark l) (with_at s after) acts t) c.chapter_refused_line.ensures answers)),
           )) c.say.ensures.ok;
     }

@@ -16,7 +16,7 @@ returns-then-is_ticked g c =
     record {
       ok = on_ok_weaker c.show_tick.result
           (λ shows. turn-of true c.in_ok-reply.reply s (with_at s (at_of c.turn.new.fleet c.turn.new.out)) (with_at s (at_of c.turn.new.fleet c.show_tick.new.out)) c.is_ticked.result c.if-is_ticked.true c.is_ticked.ensures turns refl
-          (let (acts, it) = shows in (acts, (subst (λ (who : List Speaker). Shows who (at_of c.turn.new.fleet c.turn.new.out) acts (at_of c.turn.new.fleet c.show_tick.new.out)) c.deref-2.ensures.value it, refl)))) c.show_tick.ensures.ok;
+          (let (acts, it) = shows in (acts, (subst (λ (who : List Speaker). Shows who (at_of c.turn.new.fleet c.turn.new.out) acts (at_of c.turn.new.fleet c.show_tick.new.out)) c.deref-then-is_ticked.ensures.value it, refl)))) c.show_tick.ensures.ok;
     }
 
 pub returns : goal.returns
