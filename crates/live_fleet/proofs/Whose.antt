@@ -224,7 +224,7 @@ of_own whose s acts at right = subst (λ (w : List Clients). Right w acts) at ri
 
 answers_right : (whose : List Clients) (k : ℕ) (sp : Speaker) (text : List ℕ) (s : Stage) (acts : List Act) (t : Stage) → clients_in s.speakers ≡ whose → slice_get whose k ≡ Some sp.clients → Answers k sp text s acts t → Rights whose acts t
 answers_right whose k sp text s acts t at own (at_once fits is went same) = rights_rest whose s t acts k (resting sp rest.Nothing) at own (subst (λ (l : List Act). Right whose l) (sym is) (tt, tt)) same
-answers_right whose k sp text s acts t at own (waits full none left waiting same) =
+answers_right whose k sp text s acts t at own (waits crowded none left waiting same) =
     record { right = right_none whose acts none; same = ap (λ (x : Stage). clients_in x.speakers) same ∙ kept_set whose s.speakers k (resting sp left) at own }
 
 settles_stage : (whose : List Clients) (s : Stage) (acts : List Act) (t : Stage) → clients_in s.speakers ≡ whose → SettlesAll s acts t → Rights whose acts t

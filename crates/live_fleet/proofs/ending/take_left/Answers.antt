@@ -14,8 +14,8 @@ loop-preserved g c = record {
 }
 
 pub loop-smaller : goal.loop-smaller
-loop-smaller g c = closing-fewer c.args.client c.in_ok-take_next.field-0 (at_of c.loop.fleet c.loop.out) (at_of c.take_next.new.fleet c.take_next.new.out) c.in_ok-take_next.ensures.ok c.loop-test.true
+loop-smaller g c = closing-fewer c.args.client c.in_ok-take_next.field-0 (at_of c.loop.fleet c.loop.out) (at_of c.take_next.new.fleet c.take_next.new.out) c.in_ok-take_next.ensures.ok c.if-branch.true
 
 pub returns-clause-ok : goal.returns-clause-ok
 returns-clause-ok g c =
-    closing-last c.args.client c.in_ok-take_next.field-0 (at_of c.args.fleet.now c.args.out.now) (at_of c.loop.fleet c.loop.out) (at_of c.take_next.new.fleet c.take_next.new.out) c.loop.invariant.closing c.in_ok-take_next.ensures.ok c.loop-test.false
+    closing-last c.args.client c.in_ok-take_next.field-0 (at_of c.args.fleet.now c.args.out.now) (at_of c.loop.fleet c.loop.out) (at_of c.take_next.new.fleet c.take_next.new.out) c.loop.invariant.closing c.in_ok-take_next.ensures.ok c.if-branch.false
