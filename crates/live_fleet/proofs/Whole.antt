@@ -23,10 +23,10 @@ same_lists : (s t : Talk Global) → t ≡ s → length t.clients ≡ length s.c
 same_lists s t same = ap (λ (x : Talk Global). length x.clients) same
 
 step_clients : (s t : Talk Global) (e : Event) (reply : Reply) → TalkStep s e reply t → length t.clients ≡ length s.clients
-step_clients s t (Post c o) NoClient (no, same) = same_lists s t same
+step_clients s t (Post c o) NoClient (past, same) = same_lists s t same
 step_clients s t (Post c o) LaneFull (inside, none_free, same) = same_lists s t same
 step_clients s t (Post c o) (Posted n) (inside, room, number, same) = ap (λ (x : Talk Global). length x.clients) same ∙ length-set s.clients c (with_order (waiting s c) o)
-step_clients s t (Take c) NoClient (no, same) = same_lists s t same
+step_clients s t (Take c) NoClient (past, same) = same_lists s t same
 step_clients s t (Take c) LaneEmpty (inside, none, same) = same_lists s t same
 step_clients s t (Take c) (TakeRefused take_fault.MailboxFull) (inside, some, room, same) = same_lists s t same
 step_clients s t (Take c) (TakeRefused take_fault.ChapterFull) (inside, some, room, none_free, same) = same_lists s t same
@@ -34,15 +34,15 @@ step_clients s t (Take c) (Took n v) (inside, room, entries, order, first, takes
 step_clients s t Tick (TickRefused tick_fault.ClockSpent) (spent, same) = same_lists s t same
 step_clients s t Tick (TickRefused tick_fault.ChapterFull) (left, none_free, same) = same_lists s t same
 step_clients s t Tick (Ticked report) (left, entries, ticks, same) = ap length same
-step_clients s t (Shut r) (ShutRefused shut_fault.NoRobot) (no, same) = same_lists s t same
+step_clients s t (Shut r) (ShutRefused shut_fault.NoRobot) (past, same) = same_lists s t same
 step_clients s t (Shut r) (ShutRefused shut_fault.Already) (inside, shut, same) = same_lists s t same
 step_clients s t (Shut r) (ShutRefused shut_fault.ChapterFull) (inside, open_yet, none_free, same) = same_lists s t same
 step_clients s t (Shut r) (ShutDone farewell) (entries, shuts, same) = ap length same
-step_clients s t (Give c) NoClient (no, same) = same_lists s t same
+step_clients s t (Give c) NoClient (past, same) = same_lists s t same
 step_clients s t (Give c) NothingPending (inside, none, same) = same_lists s t same
 step_clients s t (Give c) OutletFull (inside, some, none_free, same) = same_lists s t same
 step_clients s t (Give c) (Gave seq) (inside, room, notice, first, number, same) = ap (λ (x : Talk Global). length x.clients) same ∙ length-set s.clients c (with_notice (waiting s c) notice)
-step_clients s t (Collect c) NoClient (no, same) = same_lists s t same
+step_clients s t (Collect c) NoClient (past, same) = same_lists s t same
 step_clients s t (Collect c) NothingThere (inside, none, same) = same_lists s t same
 step_clients s t (Collect c) (Collected notice) (inside, first, same) = ap (λ (x : Talk Global). length x.clients) same ∙ length-set s.clients c (without_notice (waiting s c))
 step_clients s t _ _ st = absurd st

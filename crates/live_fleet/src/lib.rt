@@ -28,8 +28,8 @@ mod turning;
 
 pub use cue::Cue;
 pub use law::{
-    histories_are_safe, histories_follow_one_another, notices_are_told_once, notices_are_told_to_their_own,
-    whatever_it_hears_is_a_run,
+    histories_are_safe, histories_follow_one_another, notices_are_told_once,
+    notices_are_told_to_their_own, whatever_it_hears_is_a_run,
 };
 pub use notes::Note;
 pub use open_fleet::OpenFleet;

@@ -23,8 +23,8 @@ returns-clause-ok g c =
     (omega (arith, c.requires.there, c.requires.texts, c.args.out.now.texts.ok.0, size)) refl refl less c.index_mut-speaker.ensures.value
     (c.answer.ensures.same ∙ ap (λ (x : Speaker). resting x new.rest) c.take_mark-mark.ensures.done) c.answer.ensures.ok in
     on_ok_weaker c.answer.result
-          (λ it sp mark before there was.
-          let one = read-there s.speakers c.args.to read sp less c.index_mut-speaker.ensures.value there in
-          let kept : under c.mark_in.result ≡ mark_kept mark = c.mark_in.ensures ∙ ap mark_kept (c.take_mark-mark.ensures.mark mark before (ap (λ (x : Speaker). x.rest) one ∙ was)) in
-          answered-as c.args.to sp (marked (under c.mark_in.result) c.as_str.result.now) (marked (mark_kept mark) (tick_answer (talk c.args.self.now.fleet.session) c.args.reply)) s _
-          (ap (λ m. marked m c.as_str.result.now) kept ∙ ap (marked (mark_kept mark)) (c.as_str.ensures.value ∙ c.in_ok-text.ensures)) (it sp there)) said
+    (λ it sp mark before there was.
+    let one = read-there s.speakers c.args.to read sp less c.index_mut-speaker.ensures.value there in
+    let kept : under c.mark_in.result ≡ mark_kept mark = c.mark_in.ensures ∙ ap mark_kept (c.take_mark-mark.ensures.mark mark before (ap (λ (x : Speaker). x.rest) one ∙ was)) in
+    answered-as c.args.to sp (marked (under c.mark_in.result) c.as_str.result.now) (marked (mark_kept mark) (tick_answer (talk c.args.self.now.fleet.session) c.args.reply)) s _
+    (ap (λ m. marked m c.as_str.result.now) kept ∙ ap (marked (mark_kept mark)) (c.as_str.ensures.value ∙ c.in_ok-text.ensures)) (it sp there)) said

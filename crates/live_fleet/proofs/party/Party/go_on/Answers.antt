@@ -13,5 +13,5 @@ returns-then-self g c =
           c.if-self.true refl c.in_ok-go_once.ensures.ok;
     }
 
-pub returns : goal.returns
-returns g c = record { ok = goes-on-yet c.args.from (stage_of c.args.self.now c.args.out.now) (stage_of c.go_once.new.self c.go_once.new.out) c.if-self.false c.in_ok-go_once.ensures.ok }
+pub returns-else-self : goal.returns-else-self
+returns-else-self g c = record { ok = goes-on-yet c.args.from (stage_of c.args.self.now c.args.out.now) (stage_of c.go_once.new.self c.go_once.new.out) c.if-self.false c.in_ok-go_once.ensures.ok }

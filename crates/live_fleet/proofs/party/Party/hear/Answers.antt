@@ -57,9 +57,9 @@ returns-in-Kept-clause-whole g c =
     (omega (arith, c.args.self.now.fleet.session.count, c.args.self.now.fleet.session.waiting.ok.0)) (omega (arith, c.note_kept.new.self.fleet.session.count, c.note_kept.new.self.fleet.session.waiting.ok.0)) c.note_kept.ensures.ok
 
 pub returns-in-End-clause-does : goal.returns-in-End-clause-does
-returns-in-End-clause-does g c = does-go c.end.result (stage_of c.args.self.now c.args.out.now) (stage_of c.end.new.self c.end.new.out) heard.end (heard_of c.args.cue) (ap heard_of c.in-End.is) c.end.ensures.ok
+returns-in-End-clause-does g c = does-go c.end.result (stage_of c.args.self.now c.args.out.now) (stage_of c.end.new.self c.end.new.out) heard.end (heard_of c.args.cue) (ap heard_of c.in-End.is) c.end.ensures
 
 pub returns-in-End-clause-whole : goal.returns-in-End-clause-whole
 returns-in-End-clause-whole g c =
     stays-whole c.end.result (stage_of c.args.self.now c.args.out.now) (stage_of c.end.new.self c.end.new.out) heard.end c.requires.can.0
-    (omega (arith, c.args.self.now.fleet.session.count, c.args.self.now.fleet.session.waiting.ok.0)) (omega (arith, c.end.new.self.fleet.session.count, c.end.new.self.fleet.session.waiting.ok.0)) c.end.ensures.ok
+    (omega (arith, c.args.self.now.fleet.session.count, c.args.self.now.fleet.session.waiting.ok.0)) (omega (arith, c.end.new.self.fleet.session.count, c.end.new.self.fleet.session.waiting.ok.0)) c.end.ensures

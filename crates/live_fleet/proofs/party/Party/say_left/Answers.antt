@@ -9,4 +9,4 @@ pub returns-clause-ok : goal.returns-clause-ok
 returns-clause-ok g c =
     let size = length-map c.args.out.now.texts.items (λ (t : Vec ℕ Global). t.items) in
     left-of c.say_on.result c.args.to (stage_of c.args.self.now c.args.out.now) _ c.index_mut.result.now c.say_on.new.speaker
-          (omega (arith, c.requires.there, c.requires.texts, c.args.out.now.texts.ok.0, size)) refl refl (omega (arith, c.requires.there, c.args.self.now.speakers.ok.0)) c.index_mut.ensures.value c.say_on.ensures.same c.say_on.ensures.ok
+    (omega (arith, c.requires.there, c.requires.texts, c.args.out.now.texts.ok.0, size)) refl refl (omega (arith, c.requires.there, c.args.self.now.speakers.ok.0)) c.index_mut.ensures.value c.say_on.ensures.same c.say_on.ensures.ok

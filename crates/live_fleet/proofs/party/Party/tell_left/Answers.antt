@@ -13,8 +13,8 @@ returns-then-not-branch-2-clause-ok g c =
     let mid : At = at_of c.tell_clients.new.fleet c.tell_clients.new.out in
     let size = length-map c.tell_clients.new.out.texts.items (λ (t : Vec ℕ Global). t.items) in
     λ sp there. tells-last-no c.args.to sp c.index.result.now s _ mid c.as_bytes.result.now c.in_ok-say_if_room.field-0
-          (omega (arith, c.requires.there, c.requires.texts, c.tell_clients.ensures.count, c.tell_clients.new.out.texts.ok.0, size)) (omega (arith, c.requires.there, c.args.self.now.speakers.ok.0)) c.index.ensures there
-          (c.in_ok-tell_clients.ensures.whole c.if-not-branch.false) (c.as_bytes.ensures.value ∙ (c.in_ok-line.ensures ∙ ap ended_line c.clock.ensures)) refl c.in_ok-say_if_room.ensures.ok c.if-not-branch-2.true refl
+    (omega (arith, c.requires.there, c.requires.texts, c.tell_clients.ensures.count, c.tell_clients.new.out.texts.ok.0, size)) (omega (arith, c.requires.there, c.args.self.now.speakers.ok.0)) c.index.ensures there
+    (c.in_ok-tell_clients.ensures.whole c.if-not-branch.false) (c.as_bytes.ensures.value ∙ (c.in_ok-line.ensures ∙ ap ended_line c.clock.ensures)) refl c.in_ok-say_if_room.ensures.ok c.if-not-branch-2.true refl
 
 pub returns-clause-ok : goal.returns-clause-ok
 returns-clause-ok g c =
@@ -22,5 +22,5 @@ returns-clause-ok g c =
     let mid : At = at_of c.tell_clients.new.fleet c.tell_clients.new.out in
     let size = length-map c.tell_clients.new.out.texts.items (λ (t : Vec ℕ Global). t.items) in
     λ sp there. tells-last-yes c.args.to sp c.index.result.now c.index_mut.result.now s _ mid c.as_bytes.result.now c.in_ok-say_if_room.field-0
-          (omega (arith, c.requires.there, c.requires.texts, c.tell_clients.ensures.count, c.tell_clients.new.out.texts.ok.0, size)) (omega (arith, c.requires.there, c.args.self.now.speakers.ok.0)) c.index.ensures c.index_mut.ensures.value there
-          (c.in_ok-tell_clients.ensures.whole c.if-not-branch.false) (c.as_bytes.ensures.value ∙ (c.in_ok-line.ensures ∙ ap ended_line c.clock.ensures)) refl c.in_ok-say_if_room.ensures.ok c.if-not-branch-2.false refl
+    (omega (arith, c.requires.there, c.requires.texts, c.tell_clients.ensures.count, c.tell_clients.new.out.texts.ok.0, size)) (omega (arith, c.requires.there, c.args.self.now.speakers.ok.0)) c.index.ensures c.index_mut.ensures.value there
+    (c.in_ok-tell_clients.ensures.whole c.if-not-branch.false) (c.as_bytes.ensures.value ∙ (c.in_ok-line.ensures ∙ ap ended_line c.clock.ensures)) refl c.in_ok-say_if_room.ensures.ok c.if-not-branch-2.false refl

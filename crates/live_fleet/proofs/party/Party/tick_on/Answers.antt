@@ -17,8 +17,8 @@ returns-then-goes_on-clause-ok g c =
     let reply = c.in_ok-reply.reply in
     let turns = subst (λ (who : List Speaker). (acts : List Act) × Turns who s.clients reply s.at acts mid.at) c.deref.ensures.value c.in_ok-reply.ensures.ok in
     on_ok_weaker c.show_turn.result
-          (λ it sp mark there was. ticks-of c.args.to sp mark c.args.left reply s mid t turns refl
-          (ticks-then true c.args.to sp mark c.args.left reply mid t c.goes_on.result c.if-goes_on.true c.goes_on.ensures (it sp mark c.args.left there was))) c.show_turn.ensures.ok
+    (λ it sp mark there was. ticks-of c.args.to sp mark c.args.left reply s mid t turns refl
+    (ticks-then true c.args.to sp mark c.args.left reply mid t c.goes_on.result c.if-goes_on.true c.goes_on.ensures (it sp mark c.args.left there was))) c.show_turn.ensures.ok
 
 pub returns-clause-ok : goal.returns-clause-ok
 returns-clause-ok g c =
@@ -28,5 +28,5 @@ returns-clause-ok g c =
     let reply = c.in_ok-reply.reply in
     let turns = subst (λ (who : List Speaker). (acts : List Act) × Turns who s.clients reply s.at acts mid.at) c.deref.ensures.value c.in_ok-reply.ensures.ok in
     on_ok_weaker c.answer_ticks.result
-          (λ it sp mark there was. ticks-of c.args.to sp mark c.args.left reply s mid t turns refl
-          (ticks-then false c.args.to sp mark c.args.left reply mid t c.goes_on.result c.if-goes_on.false c.goes_on.ensures (it sp mark c.args.left there was))) c.answer_ticks.ensures.ok
+    (λ it sp mark there was. ticks-of c.args.to sp mark c.args.left reply s mid t turns refl
+    (ticks-then false c.args.to sp mark c.args.left reply mid t c.goes_on.result c.if-goes_on.false c.goes_on.ensures (it sp mark c.args.left there was))) c.answer_ticks.ensures.ok
