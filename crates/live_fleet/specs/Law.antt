@@ -1,0 +1,93 @@
+-- What holds of a fleet of many conversations, whatever events it hears.
+use Rattle.std.specs.Prelude.{◌≡◌, ◌==◌, ℕ, ◌≤◌, ◌<◌, List, [], ◌∷◌, ◌++◌, length, map, MatchOption, slice_get, if◌then◌else◌}
+use Rattle.std.specs.List.{AllByRecursion, flat_map}
+use Rattle.std.specs.declared.alloc.Global.{Global}
+use Rattle.fleet_book.specs.declared.event.Event.TheVariants.{Collect}
+use Rattle.fleet_world.specs.declared.reply.Reply.TheVariants.{Collected}
+use Rattle.fleet_book.specs.declared.notice.Notice.{Notice}
+use Rattle.fleet_grid.specs.Floor.{Floor}
+use Rattle.fleet_bound.specs.Bound.{KeepsBound, WaitsAreBounded}
+use Rattle.fleet_bound.specs.Roomy.{AdvancesIfRoomy, AreRoomy}
+use Rattle.fleet_history.specs.History.{History, start}
+use Rattle.fleet_history.specs.Laws.{AcceptsNoneClosed, ArrivalsRise, ArrivesInOrder, HasNoConflict}
+use Rattle.fleet_history.specs.Notices.{notices}
+use Rattle.fleet_history.specs.Numbering.{AreNumbered}
+use Rattle.fleet_talk.specs.Chapters.{AreTurned, ChapterView, beginning}
+use Rattle.fleet_world.specs.Talk.{Talk, mailbox, waiting}
+use Rattle.live_fleet.specs.declared.speaker.Clients.{Clients}
+use Rattle.live_fleet.specs.declared.speaker.Speaker.{Speaker}
+use Rattle.live_fleet.specs.Act.{Act, did, told}
+use Rattle.live_fleet.specs.Does.{Plays}
+use Rattle.live_fleet.specs.Out.{chapters_of}
+use Rattle.live_fleet.specs.Party.{Heard, IsWhole, Stage}
+use Rattle.live_fleet.specs.Went.{Went}
+
+-- Its acts are a run of the core, and what each conversation was told, the chapters that were handed out and the status are what the acts say
+abbrev pub EachGoesOn : Type 0
+EachGoesOn = (s t : Stage) (events : List Heard) (acts : List Act) → Plays s events acts t → Went s.at acts t.at
+
+-- each history that was handed out is legal, and begins where the one before ended
+abbrev pub EachFollows : Type 0
+EachFollows = (s t : Stage) (events : List Heard) (acts : List Act) → Plays s events acts t → AreTurned (beginning s.at.fleet.talk.world) (chapters_of acts) (beginning t.at.fleet.talk.world)
+
+-- A history in which no step has a conflict, each robot's arrivals are the beginning of its accepted errands, the numbers of a client's arrivals rise, nothing is accepted after a close, and each
+-- client's notices are numbered one after another; where all errands go to roomy cells each tick is advancing, and each wait below the bound if the opening's waits leave room for it
+pub record IsSafe (m : Floor) (h : History Global) : Type 0 where
+  pub conflicts : HasNoConflict m h
+  pub arrivals : ArrivesInOrder h
+  pub rise : ArrivalsRise h
+  pub closes : AcceptsNoneClosed h
+  pub numbered : (c : ℕ) → AreNumbered h c
+  pub advancing : AdvancesIfRoomy m h
+  pub bounded : AreRoomy m h → KeepsBound m (start h.opening) → WaitsAreBounded m h
+
+-- so is each history that was handed out, on the map of the fleet
+abbrev pub EachIsSafe : Type 0
+EachIsSafe =
+    (s t : Stage) (events : List Heard) (acts : List Act) → Plays s events acts t → AllByRecursion (λ x. IsSafe s.at.fleet.talk.world.floor x.history) (chapters_of acts)
+
+-- ---- notices
+
+-- by conversation the clients for whom it speaks
+abbrev pub clients_in : List Speaker → List Clients
+clients_in who = map (λ sp. sp.clients) who
+
+-- a conversation speaks for a client
+abbrev pub SpeaksFor : List Clients → (to client : ℕ) → Type 0
+SpeaksFor whose to client = MatchOption (slice_get whose to) ⊥ (λ c. (c.first ≤ client) × (client < c.end))
+
+-- a notice is told to a conversation that speaks for its client, and none is collected that is not told
+abbrev pub IsToldRight : List Clients → Act → Type 0
+IsToldRight whose (told to client notice) = SpeaksFor whose to client
+IsToldRight whose (did (Collect client) (Collected notice)) = ⊥
+IsToldRight whose _ = Unit {0}
+
+-- so are all, and conversations speak for the same clients as before
+abbrev pub EachIsToldRight : Type 0
+EachIsToldRight = (s t : Stage) (events : List Heard) (acts : List Act) → Plays s events acts t → AllByRecursion (IsToldRight (clients_in s.speakers)) acts × (clients_in t.speakers ≡ clients_in s.speakers)
+
+-- the notices of a client that acts tell, in order
+abbrev pub notice_told : ℕ → Act → List Notice
+notice_told c (told to client notice) = if client == c then notice ∷ [] else []
+notice_told c _ = []
+
+abbrev pub notices_told : ℕ → List Act → List Notice
+notices_told c acts = flat_map (notice_told c) acts
+
+-- the notices that histories have for a client, in order
+abbrev pub notices_in : ℕ → List (ChapterView Global) → List Notice
+notices_in c chapters = flat_map (λ x. notices x.history c) chapters
+
+-- the notices that wait for a client: those that it was given, and then those of its mailbox
+abbrev pub left_of : Talk Global → ℕ → List Notice
+left_of s c = (waiting s c).outlet ++ mailbox s c
+
+-- a client has its lists and its mailbox; in a fleet that was opened or goes on each has
+abbrev pub IsKnown : Talk Global → ℕ → Type 0
+IsKnown s c = (c < length s.clients) × (c < length s.world.mailboxes)
+
+-- From the beginning of a chapter on each notice is told once, and in order: what was told of a client, and then what waits for it, is what waited for it before, and then what the histories have for it
+abbrev pub EachIsToldOnce : Type 0
+EachIsToldOnce =
+    (s t : Stage) (events : List Heard) (acts : List Act) → Plays s events acts t → (c : ℕ) → IsKnown s.at.fleet.talk c → s.at.fleet.talk.world.history.entries ≡ []
+    → notices_told c acts ++ left_of t.at.fleet.talk c ≡ left_of s.at.fleet.talk c ++ (notices_in c (chapters_of acts) ++ notices t.at.fleet.talk.world.history c)

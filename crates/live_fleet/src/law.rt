@@ -1,0 +1,32 @@
+//! What holds of a fleet of many conversations, whatever it hears. The body of a law is empty: its contract is the law.
+
+ghost use Rattle.live_fleet.specs.Law.{EachFollows, EachGoesOn, EachIsSafe, EachIsToldOnce, EachIsToldRight};
+
+/// Whatever a fleet hears, what it does is a run of the core, and what each conversation is told, the chapters that are
+/// handed out and the status are what that run says.
+pub fn whatever_it_hears_is_a_run()
+    ensures { EachGoesOn }
+{}
+
+/// Each history that is handed out is legal, and begins where the one before ended.
+pub fn histories_follow_one_another()
+    ensures { EachFollows }
+{}
+
+/// In each history that is handed out no step has a conflict, arrivals come in order with rising numbers, nothing is
+/// accepted after a close, and notices are numbered one after another. Where all errands go to roomy cells each tick is
+/// advancing, and each wait below the bound if the opening's waits leave room for it.
+pub fn histories_are_safe()
+    ensures { EachIsSafe }
+{}
+
+/// Each notice is told to a conversation that speaks for its client, and to no other; and none is collected that is not
+/// told.
+pub fn notices_are_told_to_their_own()
+    ensures { EachIsToldRight }
+{}
+
+/// Each notice of a client is told once, and in order.
+pub fn notices_are_told_once()
+    ensures { EachIsToldOnce }
+{}

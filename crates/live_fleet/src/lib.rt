@@ -1,0 +1,39 @@
+//! A fleet of many conversations as a value: what it does at each cue, which is a line of a conversation, a turn, or
+//! what its caller learned of readers and files, and what it says of that. No thread, no clock and no file is here.
+#![tactic(auto)]
+
+mod answering;
+mod asking;
+mod cue;
+mod ending;
+mod hearing;
+mod law;
+mod length;
+mod line;
+mod listing;
+mod look;
+mod notes;
+mod onward;
+mod open_fleet;
+mod outboxes;
+mod party;
+mod posting;
+mod rest;
+mod resting;
+mod speaker;
+mod stepping;
+mod taking;
+mod telling;
+mod turning;
+
+pub use cue::Cue;
+pub use law::{
+    histories_are_safe, histories_follow_one_another, notices_are_told_once,
+    notices_are_told_to_their_own, whatever_it_hears_is_a_run,
+};
+pub use notes::Note;
+pub use open_fleet::OpenFleet;
+pub use outboxes::{MOST_TEXT, Outboxes};
+pub use party::Party;
+pub use rest::{Listing, Rest};
+pub use speaker::{Clients, Speaker};
