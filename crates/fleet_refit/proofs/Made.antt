@@ -7,7 +7,7 @@ use Rattle.fleet_refit.specs.Changed.{AreMade, Changes, none, made}
 use Rattle.fleet_refit.specs.Fault.{fault_of}
 use Rattle.fleet_refit.specs.Site.{SiteView}
 
--- where the loop is: so many changes are made
+-- where the loop is: the changes up to here are made
 abbrev pub Made : {A : Type 0} → SiteView A → List Change → SiteView A → List Dropped → List Dropped → Type 0
 Made s changes t before now = (gone : List Dropped) × AreMade s changes t gone × (now ≡ before ++ gone)
 

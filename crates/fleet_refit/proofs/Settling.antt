@@ -8,7 +8,7 @@ use Rattle.fleet_refit.specs.declared.seat.Seat.{Seat}
 use Rattle.fleet_refit.specs.Settled.{AreSettled, IsSettled, more, none}
 use Rattle.fleet_refit.proofs.Seats.{grown}
 
--- where the loop is: so many robots are settled, and the others are as they were
+-- where the loop is: the first i robots are settled, and the others are as they were
 pub record IsSoFar {A : Type 0} (m : Floor) (i : ℕ) (old now : List (Seat A)) (before dropped : List Dropped) : Type 0 where
   pub settled : (gone : List Dropped) × AreSettled m (take i old) (take i now) gone × (dropped ≡ before ++ gone)
   pub left : drop i now ≡ drop i old

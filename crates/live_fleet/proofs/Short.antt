@@ -1,4 +1,4 @@
--- The line of a notice is short: its words have so many letters, and each of its numbers at most twenty digits.
+-- The line of a notice is short: its words have a fixed number of letters, and each of its numbers at most twenty digits.
 use Rattle.std.proofs.Common.{◌≡◌, ℕ, ◌+◌, ◌^◌, ◌≤◌, ◌<◌, List, ◌++◌, length, codes, decimal, refl, arith, length-append}
 use Rattle.std.proofs.lemmas.Fmt.{length-decimal-le}
 use Rattle.fleet_book.specs.Refusals.{verdict_name}

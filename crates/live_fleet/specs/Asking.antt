@@ -43,7 +43,7 @@ pub record ShutsOne (k : ℕ) (sp : Speaker) (mark : Option (List ℕ)) (robot :
   pub answers : Answers k sp (marked mark text) mid second t
   pub parts : acts ≡ first ++ second
 
--- so many turns are to be made, and the answer is the last one's
+-- n turns are to be made, and the answer is the last one's
 abbrev pub IsTicking : Option (List ℕ) → ℕ → Rest → Type 0
 IsTicking shown times (rest.Ticking mark left) = (mark_kept mark ≡ shown) × (left ≡ times)
 IsTicking shown times _ = ⊥

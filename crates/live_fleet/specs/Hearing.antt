@@ -23,7 +23,7 @@ use Rattle.live_fleet.specs.Ending.{Ends}
 use Rattle.live_fleet.specs.Party.{Stage, with_rest, with_speaker}
 use Rattle.live_fleet.specs.Posting.{Posts, SettlesAll}
 
--- whether a conversation that speaks for these speaks for a client, of so many that there are
+-- whether a conversation that speaks for these speaks for a client, of those that there are
 abbrev pub is_own : Clients → ℕ → ℕ → Bool
 is_own who count client = not (nat_lt client who.first) && nat_lt client who.end && nat_lt client count
 

@@ -22,7 +22,7 @@ use Rattle.live_fleet.specs.Went.{At, Each}
 
 -- ---- turns
 
--- a turn is shown, and so many others are left to be made
+-- a turn is shown, and this number of others is left to be made
 abbrev pub ShowsOn : ℕ → Speaker → Option (Vec ℕ Global) → ℕ → Stage → List Act → Stage → Type 0
 ShowsOn k sp mark left s acts t = Shows s.speakers s.at acts t.at × (t ≡ with_rest (with_at s t.at) k sp (rest.Ticking mark left))
 
@@ -48,7 +48,7 @@ pub record TicksOnce (k : ℕ) (sp : Speaker) (mark : Option (Vec ℕ Global)) (
 
 -- ---- a list
 
--- the line that comes after so many: an errand's, or how many they are
+-- the line after the first n: an errand's, or how many they are
 abbrev pub listed_line : ℕ → List OpenErrand → Option OpenErrand → List ℕ
 listed_line client errands (Some e) = open_line client e
 listed_line client errands None = open_end client (length errands)

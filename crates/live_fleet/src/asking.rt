@@ -65,7 +65,7 @@ impl Party {
         self.say(alloc, out, place, chapter_refused_line())
     }
 
-    /// Begins to make so many turns.
+    /// Begins to make this number of turns.
     fn ask_ticks(
         &mut self,
         alloc: Global,

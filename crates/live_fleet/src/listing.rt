@@ -32,7 +32,7 @@ fn last_line(alloc: Global, client: u32, count: usize) -> Result<String, AllocEr
     format!(in alloc; "open {client} end {count}\n")
 }
 
-/// The next line of a list, of which so many lines were said: an errand's, or how many they are.
+/// The next line of a list, of which this number of lines was said: an errand's, or how many they are.
 pub(crate) fn next_listed(
     alloc: Global,
     client: u32,

@@ -74,7 +74,7 @@ impl Party {
         answer(alloc, out, speaker, to, mark_in(&mark), text.as_str())
     }
 
-    /// Makes a turn for a conversation that asked for so many, and answers after the last.
+    /// Makes a turn for a conversation that asked for several, and answers after the last.
     fn tick_on<R: Alloc<A = Global>>(
         &mut self,
         rt: &R,

@@ -6,7 +6,7 @@ ghost use Rattle.live_fleet.specs.Ending.{stays_at_end};
 
 use fleet_core::OpenErrand;
 
-/// A client's open errands, of which so many were listed.
+/// A client's open errands, and how many of them were listed.
 #[derive(Drop)]
 pub struct Listing {
     pub mark: Option<Vec<u8>>,
@@ -21,14 +21,14 @@ pub enum Rest {
     Nothing,
     /// An answer that waits for room.
     Line(Vec<u8>),
-    /// So many turns are to be made; the answer is the last one's.
+    /// This number of turns is to be made; the answer is the last one's.
     Ticking {
         mark: Option<Vec<u8>>,
         left: u32,
     },
     /// A list that is told line by line.
     Listing(Listing),
-    /// A chapter was handed out, with so many entries, which is to be kept first.
+    /// A chapter was handed out, with this number of entries, which is to be kept first.
     Keeping {
         mark: Option<Vec<u8>>,
         chapter: u32,

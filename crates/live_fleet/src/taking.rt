@@ -19,7 +19,7 @@ pub(crate) fn is_took(reply: Reply) -> bool
     matches!(reply, Reply::Took { .. })
 }
 
-/// Takes a client's orders that wait, at most so many.
+/// Takes a client's orders that wait, at most this number.
 pub(crate) fn take_client<R: Alloc<A = Global>>(
     rt: &R,
     fleet: &mut OpenFleet,

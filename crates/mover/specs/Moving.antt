@@ -16,7 +16,7 @@ pub record Mover : Type 0 where
   pub planner : Planner
   pub turns : Option Turns
 
--- turns of the map, which has a bridge, for so many robots
+-- turns of the map, which has a bridge, for n robots
 pub record AreTurnsOf (m : Floor) (n : ℕ) (t : Turns) : Type 0 where
   pub are : AreTurns m t
   pub many : t.robots ≡ n
@@ -31,7 +31,7 @@ abbrev pub IsManner : Floor → Manner → Option Turns → Type 0
 IsManner m manner.Plain turns = turns ≡ None
 IsManner m manner.Turns turns = turns ≡ None → IsBridgeless (IsNeighbour m)
 
--- a planner of so many robots that have no goals
+-- a planner of n robots that have no goals
 pub record IsNewMover (m : Floor) (n : ℕ) (asked : Manner) (p : Mover) : Type 0 where
   pub planner : IsNewPlanner m n p.planner
   pub turns : HasTurns m n p.turns

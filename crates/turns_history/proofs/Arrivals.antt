@@ -28,7 +28,7 @@ use Rattle.turns_history.proofs.Pausing.{front-kept, take-in-turns, shut-in-turn
 use Rattle.turns_history.proofs.Keeping.{fleet-of, served-front}
 use Rattle.turns_history.proofs.Going.{all-entries, began}
 
--- since the moment `from` the robot's errand arrived, or it is its front still, after so many ticks
+-- since the moment `from` the robot's errand arrived, or it is its front still, after this number of ticks
 data IsComing {A : Type 0} (m : Floor) (t : Turns) (laws : List TieLaw) (from : History A) (r : ℕ) (x : Errand) (now : History A) (ticks : ℕ) : Type 0 where
   arrived : Contains (arrivals now r) x → IsComing m t laws from r x now ticks
   coming : front now r ≡ Some x → Follows m t laws r (as_fleet from) (as_fleet now) ticks → IsComing m t laws from r x now ticks

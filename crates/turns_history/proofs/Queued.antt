@@ -36,7 +36,7 @@ use Rattle.turns_history.proofs.Keeping.{early-before, fleet-of, served-front}
 use Rattle.turns_history.proofs.Places.{HasMovedUp, get-below, get-later, get-earlier, moved-up, moved-on}
 use Rattle.turns_history.proofs.Going.{all-entries, began}
 
--- the errand is gone, or so many robots' turns of its ticks are over
+-- the errand is gone, or this number of robots' turns of its ticks is over
 data IsDue {A : Type 0} (m : Floor) (t : Turns) (l : TurnLimits) (r : ℕ) (x : Errand) (count : ℕ) (now : History A) (ticks : ℕ) : Type 0 where
   gone : IsGone now r x → IsDue m t l r x count now ticks
   due : (k done part : ℕ) → slice_get (unfinished now r) k ≡ Some x → done + (k + 1) ≡ count → AreServedUpTo t now r k → IsOnTime m t l.reach l.depth l.turn (as_fleet now) r part →

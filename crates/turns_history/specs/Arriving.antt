@@ -22,7 +22,7 @@ pub record GoesOnInTurns {A : Type 0} (m : Floor) (t : Turns) (laws : List TieLa
       more ≡ before ++ Tick to arrived farewells ∷ behind → IsPlannedInTurns m t laws (onward h before) to
   pub early : IsEarly (onward h more)
 
--- each robot's front errand, if it is served, arrives in each such continuation that has so many ticks
+-- each robot's front errand, if it is served, arrives in each such continuation that has at least `ticks` ticks
 abbrev pub FrontsArrive : {A : Type 0} → Floor → Turns → List TieLaw → ℕ → History A → Type 0
 FrontsArrive {A} m t laws ticks h = (r : ℕ) (x : Errand) (more : List (Entry A)) → r < robots h → front h r ≡ Some x → IsServedAfter t h x.cell →
     GoesOnInTurns m t laws h more → ticks ≤ tick_count more → Contains (arrivals (onward h more) r) x
@@ -31,7 +31,7 @@ FrontsArrive {A} m t laws ticks h = (r : ℕ) (x : Errand) (more : List (Entry A
 abbrev pub AreServedUpTo : {A : Type 0} → Turns → History A → (r k : ℕ) → Type 0
 AreServedUpTo t h r k = (i : ℕ) (y : Errand) → i ≤ k → slice_get (unfinished h r) i ≡ Some y → IsServedAfter t h y.cell
 
--- the errand at place j of a robot's queue, if it and all before it are served, is gone after each such continuation that has so many ticks
+-- the errand at place j of a robot's queue, if it and all before it are served, is gone after each such continuation that has `ticks` ticks
 -- j + 1 times
 abbrev pub QueuesArrive : {A : Type 0} → Floor → Turns → List TieLaw → ℕ → History A → Type 0
 QueuesArrive {A} m t laws ticks h = (r j : ℕ) (x : Errand) (more : List (Entry A)) → r < robots h → slice_get (unfinished h r) j ≡ Some x → AreServedUpTo t h r j →

@@ -28,7 +28,7 @@ planner_of f = record { aims = f.aims; size = f.size; bridgeless = false; kept =
 abbrev pub moved : TurnFleet → Mover
 moved f = record { planner = planner_of f; turns = Some f.turns }
 
--- one of so many robots that have no goals
+-- one of n robots that have no goals
 pub record IsNewFleet (m : Floor) (n : ℕ) (f : TurnFleet) : Type 0 where
   pub planner : IsNewPlanner m n (turn_planner f)
   pub keeps : Keeps m f.kept

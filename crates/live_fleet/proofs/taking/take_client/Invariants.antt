@@ -1,4 +1,4 @@
--- So many orders were judged.
+-- This number of orders was judged.
 use Rattle.std.proofs.Common.{◌≡◌, ◌≤◌, ◌-◌, ℕ, List, vec_len}
 use Rattle.std.specs.List.{range_with_len}
 use Rattle.live_fleet.specs.Act.{Act}

@@ -1,4 +1,4 @@
--- So many notices were told.
+-- This number of notices was told.
 use Rattle.std.proofs.Common.{◌≡◌, ◌≤◌, ◌-◌, ℕ, List, vec_len}
 use Rattle.std.specs.List.{range_with_len}
 use Rattle.live_fleet.specs.Act.{Act}
