@@ -10,17 +10,18 @@ SOURCES = c_sources.sources_of(TOP / "crates" / "fleet_c")
 CROSSING = c_sources.structs_of(SOURCES)
 BINDINGS = TOP / "bindings"
 
-NUMBERS = {"u8": "uint8_t", "u32": "uint32_t", "u64": "uint64_t", "usize": "size_t", "bool": "bool"}
+NUMBERS = {"u8": "uint8_t", "u16": "uint16_t", "u32": "uint32_t", "u64": "uint64_t", "usize": "size_t", "bool": "bool"}
 STRUCTS = {"Handle": "fleet", "Setup": "setup", "Robot": "robot", "Fault": "fault", "Judgement": "judgement", "Report": "report",
            "Note": "note", "Edge": "edge", "Request": "order", "Landing": "arrival", "MapHandle": "map", "MapShape": "shape",
            "Chore": "errand", "Standing": "standing", "Account": "account", "ChapterHandle": "chapter",
-           "ExecutionHandle": "execution", "Motion": "move", "Whereabouts": "whereabouts", "Progress": "progress"}
+           "ExecutionHandle": "execution", "Motion": "move", "Whereabouts": "whereabouts", "Progress": "progress",
+           "ShieldHandle": "shield"}
 # What the header has in the place of a number of 32 bits
 ENUMS = {("Fault", "code"): "code", ("Judgement", "verdict"): "verdict", ("Note", "verdict"): "verdict", ("Request", "kind"): "kind",
          ("Standing", "state"): "state"}
 NO_CODE = ("nashirudder_version",)
 # What handles are made of
-OWNERS = ("Owned", "Handle", "OwnedMap", "MapHandle", "OwnedChapter", "ChapterHandle", "OwnedExecution", "ExecutionHandle")
+OWNERS = ("Owned", "Handle", "OwnedMap", "MapHandle", "OwnedChapter", "ChapterHandle", "OwnedExecution", "ExecutionHandle", "OwnedShield", "ShieldHandle")
 
 
 say = processes.Voice("the bindings")
@@ -90,7 +91,7 @@ def structs():
     found = {STRUCTS[name]: [f"nashirudder_{ENUMS[name, field[0]]} {field[0]}" if (name, field[0]) in ENUMS else c_field(*field) for field in fields]
              for name, (_, fields) in CROSSING.items() if name not in OWNERS}
     # A handle's owner is a pointer and an allocator, which takes no bytes.
-    found["fleet"] = found["map"] = found["chapter"] = found["execution"] = ["void *at", "bool is_open"]
+    found["fleet"] = found["map"] = found["chapter"] = found["execution"] = found["shield"] = ["void *at", "bool is_open"]
     return {f"nashirudder_{name}": fields for name, fields in found.items()}
 
 
@@ -139,7 +140,7 @@ def compare_header():
 
 
 # The structs of bindings/rust that cross, where they are not `Raw` and the word of the header
-RUST = {"Handle": "Handle", "MapHandle": "Handle", "ChapterHandle": "Handle", "ExecutionHandle": "Handle", "Robot": "crate::Robot", "Report": "crate::Report"}
+RUST = {"Handle": "Handle", "MapHandle": "Handle", "ChapterHandle": "Handle", "ExecutionHandle": "Handle", "ShieldHandle": "Handle", "Robot": "crate::Robot", "Report": "crate::Report"}
 
 
 def rust_text():
@@ -255,7 +256,7 @@ def sizes():
         at, widest = 0, 1
         for field in fields:
             array = re.search(r"\[(\d+)\]", field)
-            width = 8 if "*" in field else {"uint8_t": 1, "bool": 1, "uint64_t": 8, "size_t": 8}.get(field.split()[0], 4)
+            width = 8 if "*" in field else {"uint8_t": 1, "bool": 1, "uint16_t": 2, "uint64_t": 8, "size_t": 8}.get(field.split()[0], 4)
             at = -(-at // width) * width + width * (int(array[1]) if array else 1)
             widest = max(widest, width)
         return -(-at // widest) * widest

@@ -25,7 +25,7 @@ pub fn quick_handle(alloc: Global) -> {name} {{
     {name}::closed(alloc)
 }}
 """
-HANDLES = {"Handle": "handle", "MapHandle": "map_handle", "ChapterHandle": "chapter_handle", "ExecutionHandle": "execution_handle"}
+HANDLES = {"Handle": "handle", "MapHandle": "map_handle", "ChapterHandle": "chapter_handle", "ExecutionHandle": "execution_handle", "ShieldHandle": "shield_handle"}
 
 
 def value(rust, structs):

@@ -73,6 +73,9 @@ RAW(execution_begin);
 RAW(execution_reached);
 RAW(execution_whereabouts);
 RAW(execution_progress);
+RAW(shield_open);
+RAW(shield_close);
+RAW(shield_step);
 
 /* The address of a list, which is null only if the list is empty; then it is another address, which nobody reads. */
 #define LIST(type, list) ((list) ? (list) : (type *)(void *)nothing)
@@ -517,4 +520,27 @@ nashirudder_code nashirudder_execution_progress(const nashirudder_execution *exe
     if (!execution || !progress) return NASHIRUDDER_NULL_POINTER;
     nashirudder_execution seen = *execution;
     return raw_nashirudder_execution_progress(&seen, progress);
+}
+
+nashirudder_code nashirudder_shield_open(const nashirudder_map *map, uint32_t robots, nashirudder_shield *shield) {
+    if (!map || !shield) return NASHIRUDDER_NULL_POINTER;
+    nashirudder_map seen = *map;
+    return raw_nashirudder_shield_open(&seen, robots, shield);
+}
+
+void nashirudder_shield_close(nashirudder_shield *shield) {
+    if (!shield) return;
+    raw_nashirudder_shield_close(shield);
+}
+
+nashirudder_code nashirudder_shield_step(const nashirudder_map *map, nashirudder_shield *shield, const uint32_t *from, size_t from_length,
+        const uint32_t *order, size_t order_length, uint16_t each, const uint32_t *preferences, size_t preferences_length,
+        uint32_t *to, size_t to_length, nashirudder_fault *fault) {
+    nashirudder_fault unread_fault;
+    if (!map || !shield || (!from && from_length) || (!order && order_length) || (!preferences && preferences_length) || (!to && to_length)) {
+        return NASHIRUDDER_NULL_POINTER;
+    }
+    nashirudder_map seen = *map;
+    return raw_nashirudder_shield_step(&seen, shield, LIST(const uint32_t, from), from_length, LIST(const uint32_t, order), order_length,
+        each, LIST(const uint32_t, preferences), preferences_length, LIST(uint32_t, to), to_length, fault ? fault : &unread_fault);
 }

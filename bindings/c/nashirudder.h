@@ -146,7 +146,17 @@ typedef NASHIRUDDER_ENUM(nashirudder_code) {
     NASHIRUDDER_WINDOW_FULL = 63,        /* a move that lies a window of steps before the next step is not reached */
     NASHIRUDDER_NO_STEP = 64,            /* the cells are no step, free of conflicts, from the last planned placement */
     NASHIRUDDER_NO_MOVE = 65,            /* no move may begin */
-    NASHIRUDDER_NOT_UNDER_WAY = 66       /* the robot is not under way */
+    NASHIRUDDER_NOT_UNDER_WAY = 66,      /* the robot is not under way */
+
+    /* what a shield refuses: the fault names robots and places of lists, from 0 */
+    NASHIRUDDER_SHIELD_MAP = 70,         /* the map has another number of cells than the shield was made for */
+    NASHIRUDDER_SHIELD_LENGTH = 71,      /* a list is not as long as the shield's number of robots asks */
+    NASHIRUDDER_SHIELD_OUTSIDE = 72,     /* the robot `first` stands beyond the map's last cell */
+    NASHIRUDDER_SHIELD_WALL = 73,        /* the robot `first` stands on a wall */
+    NASHIRUDDER_SHIELD_SHARED = 74,      /* the robots `first` and `second` stand on one cell */
+    NASHIRUDDER_SHIELD_UNKNOWN = 75,     /* the place `first` of the order names no robot */
+    NASHIRUDDER_SHIELD_TWICE = 76,       /* the place `first` of the order names a robot that an earlier one names */
+    NASHIRUDDER_SHIELD_FAR = 77          /* of the robot `first`, the preference `second` is neither its own cell nor next to it */
 } nashirudder_code;
 
 /*
@@ -259,6 +269,14 @@ static inline const char *nashirudder_code_name(uint32_t code) {
     case NASHIRUDDER_NO_STEP: return "no-step";
     case NASHIRUDDER_NO_MOVE: return "no-move";
     case NASHIRUDDER_NOT_UNDER_WAY: return "not-under-way";
+    case NASHIRUDDER_SHIELD_MAP: return "shield-map";
+    case NASHIRUDDER_SHIELD_LENGTH: return "shield-length";
+    case NASHIRUDDER_SHIELD_OUTSIDE: return "shield-outside";
+    case NASHIRUDDER_SHIELD_WALL: return "shield-wall";
+    case NASHIRUDDER_SHIELD_SHARED: return "shield-shared";
+    case NASHIRUDDER_SHIELD_UNKNOWN: return "shield-unknown";
+    case NASHIRUDDER_SHIELD_TWICE: return "shield-twice";
+    case NASHIRUDDER_SHIELD_FAR: return "shield-far";
     default: return "unknown";
     }
 }
@@ -335,6 +353,14 @@ typedef struct nashirudder_execution {
     void *at;
     bool is_open;
 } nashirudder_execution;
+
+/*
+** A handle to a shield. As with a fleet's, the caller owns its 16 bytes, which begin all zero.
+*/
+typedef struct nashirudder_shield {
+    void *at;
+    bool is_open;
+} nashirudder_shield;
 
 /*
 ** The number of clients and the limits of a fleet. nashirudder_setup_default fills it in; it begins with its size, so that a
@@ -983,6 +1009,46 @@ NASHIRUDDER_MUST_USE nashirudder_code nashirudder_execution_whereabouts(const na
 ** NASHIRUDDER_NOT_OPEN.
 */
 NASHIRUDDER_MUST_USE nashirudder_code nashirudder_execution_progress(const nashirudder_execution *execution, nashirudder_progress *progress);
+
+/* ---- a shield for any policy: one step without conflicts, from what each robot prefers ---- */
+
+/*
+** A policy, of whatever kind, says which cells each robot would like to go to, the best first. A step of the shield moves the
+** robots by these wishes so that no two come to one cell, no two exchange their cells, and each stays or goes to a neighbour,
+** whatever the policy says: by priority inheritance with backtracking (PIBT). It is not tied to a fleet, and there is no limit
+** of 512 robots.
+**
+** Opens a closed handle to a shield for this many robots on a map. All memory is taken here: 8 bytes for each cell of the map
+** and 4 for each robot. The shield does not own the map: each step is handed it again.
+**
+** Refused: NASHIRUDDER_ALREADY_OPEN if the shield's handle is open, NASHIRUDDER_NOT_OPEN if the map's is closed,
+** NASHIRUDDER_NO_MEMORY.
+*/
+NASHIRUDDER_MUST_USE nashirudder_code nashirudder_shield_open(const nashirudder_map *map, uint32_t robots, nashirudder_shield *shield);
+
+/*
+** Closes a handle to a shield: frees what an open one owns. A closed one stays closed.
+*/
+void nashirudder_shield_close(nashirudder_shield *shield);
+
+/*
+** Writes to `to` where each robot goes from its cell in `from`. `order` has the number of each robot once, the first to be
+** planned first; another one in each step lets no robot wait for ever for want of rank. `preferences` has `each` cells for each
+** robot, robot 0's first: neighbours of its cell and its own cell, in any order, the best first. Not all have to be there, and
+** one may be there twice: a shorter list is filled up with the robot's own cell, which each robot tries last anyway.
+**
+** Each robot goes to a cell of its list, or stays. The first of the order gets its first preference if any step free of
+** conflicts that keeps to the lists would give it. A cell that a robot prefers to its new one is taken by another robot, or its
+** robot comes to this one's cell, or this robot stays since the robot there wanted to come to its cell and could not.
+**
+** Refused, with nothing written to `to`: NASHIRUDDER_NOT_OPEN if either handle is closed, where `fault` stays as it was; and the
+** first of NASHIRUDDER_SHIELD_MAP to NASHIRUDDER_SHIELD_FAR, in the order of their numbers, which `fault` tells: first each
+** robot's cell, then the order, then the preferences.
+*/
+NASHIRUDDER_MUST_USE nashirudder_code nashirudder_shield_step(const nashirudder_map *map, nashirudder_shield *shield,
+                               const uint32_t *from, size_t from_length, const uint32_t *order, size_t order_length,
+                               uint16_t each, const uint32_t *preferences, size_t preferences_length,
+                               uint32_t *to, size_t to_length, nashirudder_fault *fault);
 
 #ifdef __cplusplus
 }

@@ -144,10 +144,42 @@ static int executions(long *refused) {
     }
 }
 
+/* Each growth of a shield's opening refused in turn; a step takes no memory. */
+static int shields(long *refused) {
+    static const uint32_t from[2] = {0, 2}, order[2] = {1, 0}, wanted[2] = {1, 1};
+    nashirudder_map map = NASHIRUDDER_CLOSED;
+    nashirudder_fault fault;
+    if (nashirudder_map_open((const uint8_t *)MAP, sizeof MAP - 1, &map, &fault) != NASHIRUDDER_DONE) return 0;
+    long had = live;
+    for (long n = 0;; n++) {
+        nashirudder_shield shield = NASHIRUDDER_CLOSED;
+        uint32_t to[2];
+        left = n;
+        uint32_t code = nashirudder_shield_open(&map, 2, &shield);
+        bool is_last = left >= 0;
+        if (code == NASHIRUDDER_DONE) {
+            left = 0;
+            if (nashirudder_shield_step(&map, &shield, from, 2, order, 2, 1, wanted, 2, to, 2, &fault) != NASHIRUDDER_DONE || left != 0) return 0;
+        } else if (code != NASHIRUDDER_NO_MEMORY || shield.is_open) {
+            return 0;
+        }
+        left = -1;
+        nashirudder_shield_close(&shield);
+        if (live != had) return 0;
+        if (is_last) {
+            nashirudder_map_close(&map);
+            return code == NASHIRUDDER_DONE && live == 0;
+        }
+        if (code == NASHIRUDDER_DONE) return 0;
+        ++*refused;
+    }
+}
+
 int main(void) {
-    long opens = 0, orders = 0, ticks = 0, others = 0, on_maps = 0, again = 0, on_executions = 0;
+    long opens = 0, orders = 0, ticks = 0, others = 0, on_maps = 0, again = 0, on_executions = 0, on_shields = 0;
     if (!maps(&on_maps)) return 9;
     if (!executions(&on_executions)) return 11;
+    if (!shields(&on_shields)) return 12;
     nashirudder_robot robots[2] = {{0, {0, 1, 0, 0}}, {3, {0, 0, 0, 0}}};
     nashirudder_setup setup;
     nashirudder_setup_default(1, &setup);
@@ -191,8 +223,8 @@ int main(void) {
             return 7;
         }
         if (rest > 0) {
-            printf("bindings/c/refused.c: %ld growths refused in turn, at %ld openings, %ld orders, %ld ticks, %ld other calls, %ld at reopenings, %ld on maps, and %ld at executions; nothing lost\n",
-                   n, opens, orders, ticks, others, again, on_maps, on_executions);
+            printf("bindings/c/refused.c: %ld growths refused in turn, at %ld openings, %ld orders, %ld ticks, %ld other calls, %ld at reopenings, %ld on maps, %ld at executions, and %ld at shields; nothing lost\n",
+                   n, opens, orders, ticks, others, again, on_maps, on_executions, on_shields);
             return 0;
         }
     }

@@ -118,6 +118,9 @@ enum class Code : std::uint32_t {
     waited_too_long = NASHIRUDDER_WAITED_TOO_LONG, bad_clearance = NASHIRUDDER_BAD_CLEARANCE,
     bad_window = NASHIRUDDER_BAD_WINDOW, no_placement = NASHIRUDDER_NO_PLACEMENT, window_full = NASHIRUDDER_WINDOW_FULL,
     no_step = NASHIRUDDER_NO_STEP, no_move = NASHIRUDDER_NO_MOVE, not_under_way = NASHIRUDDER_NOT_UNDER_WAY,
+    shield_map = NASHIRUDDER_SHIELD_MAP, shield_length = NASHIRUDDER_SHIELD_LENGTH, shield_outside = NASHIRUDDER_SHIELD_OUTSIDE,
+    shield_wall = NASHIRUDDER_SHIELD_WALL, shield_shared = NASHIRUDDER_SHIELD_SHARED, shield_unknown = NASHIRUDDER_SHIELD_UNKNOWN,
+    shield_twice = NASHIRUDDER_SHIELD_TWICE, shield_far = NASHIRUDDER_SHIELD_FAR,
 };
 
 /* What an order is answered. */
@@ -1104,9 +1107,72 @@ public:
     }
 
 private:
+    friend class Shield;
     Map() = default;
 
     nashirudder_map handle = NASHIRUDDER_CLOSED;
+};
+
+/* A shield for any policy: one step of any number of robots without conflicts, from what each robot prefers. */
+class Shield {
+public:
+    /* For this many robots on a map, which the shield keeps, alone or with others. Takes all its memory here. */
+    Shield(std::shared_ptr<const Map> map, std::uint32_t robots) : floor(std::move(map)) {
+        detail::check(nashirudder_shield_open(at(floor), robots, &handle));
+    }
+    Shield(Map map, std::uint32_t robots) : Shield(std::make_shared<const Map>(std::move(map)), robots) {}
+    [[nodiscard]] static Expected<Shield> try_open(std::shared_ptr<const Map> map, std::uint32_t robots) {
+        Shield shield;
+        shield.floor = std::move(map);
+        const nashirudder_code code = nashirudder_shield_open(at(shield.floor), robots, &shield.handle);
+        if (code != NASHIRUDDER_DONE) return detail::Unexpected(Fault{0, 0, code});
+        return shield;
+    }
+    Shield(const Shield &) = delete;
+    Shield &operator=(const Shield &) = delete;
+    Shield(Shield &&other) noexcept : floor(std::move(other.floor)), handle(std::exchange(other.handle, nashirudder_shield NASHIRUDDER_CLOSED)) {}
+    Shield &operator=(Shield &&other) noexcept {
+        if (this != &other) {
+            nashirudder_shield_close(&handle);
+            floor = std::move(other.floor);
+            handle = std::exchange(other.handle, nashirudder_shield NASHIRUDDER_CLOSED);
+        }
+        return *this;
+    }
+    ~Shield() { nashirudder_shield_close(&handle); }
+
+    /* Writes to `to` where each robot goes from its cell in `from`. `order` has each robot once, the first to be planned first;
+       `preferences` has `each` cells for each robot, robot 0's first: its own cell and neighbours of it, the best first. Refused
+       by the first fault of what is asked (Code::shield_map to Code::shield_far), and then `to` stays as it was. No two of the
+       lists may overlap `to`. */
+    void step(Span<const std::uint32_t> from, Span<const std::uint32_t> order, std::uint16_t each, Span<const std::uint32_t> preferences,
+              Span<std::uint32_t> to) {
+        Fault fault{};
+        detail::check(call(from, order, each, preferences, to, fault), fault);
+    }
+    [[nodiscard]] Expected<void> try_step(Span<const std::uint32_t> from, Span<const std::uint32_t> order, std::uint16_t each,
+                                          Span<const std::uint32_t> preferences, Span<std::uint32_t> to) {
+        Fault fault{};
+        const nashirudder_code code = call(from, order, each, preferences, to, fault);
+        if (code != NASHIRUDDER_DONE) return detail::Unexpected(detail::fault_of(code, fault));
+        return {};
+    }
+    [[nodiscard]] const Map &map() const { return *floor; }
+
+private:
+    Shield() = default;
+    static const nashirudder_map *at(const std::shared_ptr<const Map> &map) {
+        static const nashirudder_map closed = NASHIRUDDER_CLOSED;
+        return map ? &map->handle : &closed;
+    }
+    nashirudder_code call(Span<const std::uint32_t> from, Span<const std::uint32_t> order, std::uint16_t each, Span<const std::uint32_t> preferences,
+                          Span<std::uint32_t> to, Fault &fault) {
+        return nashirudder_shield_step(at(floor), &handle, from.data(), from.size(), order.data(), order.size(), each,
+                                       preferences.data(), preferences.size(), to.data(), to.size(), &fault);
+    }
+
+    std::shared_ptr<const Map> floor;
+    nashirudder_shield handle = NASHIRUDDER_CLOSED;
 };
 
 /* The execution of a plan, of any planner, by robots that are not in step (docs/EXECUTION.md). */

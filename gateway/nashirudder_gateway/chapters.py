@@ -30,8 +30,9 @@ class Kept:
     shut: Set[int] = field(default_factory=set)
     # how many orders were taken, up to the end of the last chapter
     orders: int = 0
-    # the chapter after the last one
+    # the chapter after the last one, and the tick at which it begins
     next_chapter: Optional[int] = None
+    tick: int = 0
 
 
 class Gap(Exception):
@@ -72,3 +73,4 @@ def _take(kept: Kept, told: dict) -> None:
             kept.verdicts[kept.orders] = tuple(entry[2]), tuple(entry[3])
         elif entry[0] == "shut":
             kept.shut.add(entry[1])
+    kept.tick = tick

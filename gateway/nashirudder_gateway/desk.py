@@ -3,20 +3,22 @@
 import asyncio
 import collections
 import concurrent.futures
+import functools
 import logging
 import sqlite3
 import time
-from typing import Any, Callable, Deque, Optional
+from typing import Any, Callable, Deque, List, Optional
 
 from nashirudder.errors import FleetError, Missing, Refused
 from nashirudder.events import Arrived, Event, Judged, Moved, NotPosted, Over, Posted
 from nashirudder.stream import FleetStream
 
-from . import chapters, recovery
+from . import chapters, recovery, turns
 from .errand import Errand
 from .journal import Batch
 from .ledger import Ledger, Withdrawal
 from .site import Site
+from .vehicles import Vehicles
 
 log = logging.getLogger("nashirudder_gateway")
 
@@ -36,12 +38,14 @@ class Wrong(Exception):
 class Desk(Ledger):
     """A ledger with its fleet. `run` keeps the fleet until `close`; a fleet that ends is started again."""
 
-    def __init__(self, site: Site, tell: Callable[..., None], keep_days: float = 7.0) -> None:
+    def __init__(self, site: Site, tell: Callable[..., None], keep_days: float = 7.0, vehicles: Optional[Vehicles] = None) -> None:
         super().__init__(site, tell)
-        self.keep_days = keep_days
+        self.keep_days, self.vehicles = keep_days, vehicles
         self.fleet: Optional[FleetStream] = None
         self.is_ready, self.is_closing, self.trouble = False, False, "the fleet has not started yet"
         self.outbox: Deque[Any] = collections.deque()
+        # those that arrived by plan, and whose vehicles may not be there yet
+        self.to_stand: List[Errand] = []
         self.next_number = 1
         self.latest_turn, self.busy_since = time.monotonic(), 0.0
         self._wake = asyncio.Event()
@@ -113,6 +117,8 @@ class Desk(Ledger):
                 await asyncio.sleep(0.5)
         await self._write_down()
         self._disk.shutdown()
+        if self.vehicles is not None:
+            self.vehicles.log.close()
         self.journal.close()
         self.lock.close()
 
@@ -121,7 +127,12 @@ class Desk(Ledger):
         await recovery.recover(self, fleet)
         self.is_ready, self.trouble, self.latest_turn = True, "", time.monotonic()
         log.info("ready at tick %d", self.tick)
-        tasks = [asyncio.ensure_future(it) for it in (self._hear(fleet), self._post(fleet), self._follow(fleet))]
+        works, vehicles = [self._hear(fleet), self._post(fleet), self._follow(fleet)], self.vehicles
+        if vehicles is not None:
+            vehicles.begin(self.tick, list(self.robots.cells))
+            vehicles.on_move = functools.partial(turns.show, self, vehicles)
+            works.append(turns.drive(self, fleet, vehicles))
+        tasks = [asyncio.ensure_future(it) for it in works]
         try:
             done, _ = await asyncio.wait(tasks, return_when=asyncio.FIRST_COMPLETED)
             for task in done:
@@ -133,14 +144,19 @@ class Desk(Ledger):
             self._stop("the fleet ended")
 
     def _stop(self, trouble: str) -> None:
+        if self.vehicles is not None:
+            self.vehicles.stop()
+        self.to_stand.clear()
         self.is_ready, self.trouble, self.busy_since = False, trouble, 0.0
         self.let_go([it.answer for it in self.outbox if isinstance(it, Withdrawal)])
         self.outbox.clear()
         self._in_hand = 0
 
     async def close(self) -> None:
-        """Lets the fleet end: what was posted is judged, and the last chapter is written."""
+        """Lets the fleet end: vehicles do what was planned, what was posted is judged, and the last chapter is written."""
         self.is_closing = True
+        if self.vehicles is not None:
+            await turns.settle(self.vehicles)
         if self.fleet is not None:
             await self.fleet.close(60)
 
@@ -180,9 +196,18 @@ class Desk(Ledger):
             self.busy_since = 0.0
             self.journal.settle(batch)
 
+    async def on_disk(self, call: Callable[..., Any], *words: Any) -> None:
+        """Calls it in the thread that writes."""
+        await asyncio.get_running_loop().run_in_executor(self._disk, call, *words)
+
+    @property
+    def what_is_wrong(self) -> str:
+        """The trouble of the fleet, or else of the vehicles."""
+        return self.trouble or ("" if self.vehicles is None else self.vehicles.trouble)
+
     async def _is_written(self, batch: Batch) -> bool:
         try:
-            await asyncio.get_running_loop().run_in_executor(self._disk, self.journal.write, batch)
+            await self.on_disk(self.journal.write, batch)
         except sqlite3.Error as error:
             self.trouble, self.is_ready = f"the journal cannot be written: {error}", False
             log.error("%s", self.trouble)
@@ -200,10 +225,12 @@ class Desk(Ledger):
             kept = await loop.run_in_executor(None, chapters.read, self.site.chapters, self.journal.next_chapter, True)
             if kept.next_chapter != self.journal.next_chapter:
                 self.take_in(kept)
+                if self.vehicles is not None:
+                    self.vehicles.log.remove_before(kept.tick, self.vehicles.reached)
             if time.time() > self._cleaned + HOUR:
                 self._cleaned = time.time()
                 before = self._cleaned - self.keep_days * DAY
-                await loop.run_in_executor(self._disk, self.journal.remove_before, before)
+                await self.on_disk(self.journal.remove_before, before)
             self._wake.set()
 
     async def _hear(self, fleet: FleetStream) -> None:
@@ -221,6 +248,8 @@ class Desk(Ledger):
             errand = event.note if event.note is not None else self.by_accepted.get(event.errand)
             if errand is not None:
                 self.arrived(errand, event.tick)
+                if self.vehicles is not None:
+                    self.to_stand.append(errand)
         elif isinstance(event, Posted):
             if isinstance(event.note, Errand) and event.note.number != event.number:
                 raise Wrong("an order has another number than was written down")

@@ -123,6 +123,13 @@ class Door:
         self.guard.client(request)
         return as_json(self.desk.robots.view(self._robot(request), self.desk.tick))
 
+    async def list_vehicles(self, request: web.Request) -> web.Response:
+        self.guard.client(request)
+        vehicles = self.desk.vehicles
+        if vehicles is None:
+            raise Refusal(404, "no-vehicles")
+        return as_json({"is_set": vehicles.is_set, "vehicles": vehicles.views()})
+
     async def _ask(self, line: str) -> list:
         if self.desk.fleet is None or not self.desk.is_ready:
             raise Refusal(503, "not-ready", wait=1.0)
@@ -153,7 +160,7 @@ class Door:
 
     def _health(self, is_well: bool) -> web.Response:
         desk = self.desk
-        told = {"is_ready": desk.is_ready, "trouble": desk.trouble, "tick": desk.tick, "unanswered": desk.unanswered}
+        told = {"is_ready": desk.is_ready, "trouble": desk.what_is_wrong, "tick": desk.tick, "unanswered": desk.unanswered}
         return as_json(told, 200 if is_well else 503, None if is_well else {"Retry-After": "1"})
 
     async def get_health(self, _request: web.Request) -> web.Response:
@@ -172,6 +179,9 @@ class Door:
         lines += [f"gateway_ready {int(desk.is_ready)}", f"gateway_errands_open {desk.open_of.total()}",
                   f"gateway_unanswered {desk.unanswered}", f"gateway_sockets {len(self.seats)}",
                   f"gateway_sockets_dropped_total {self.seats.dropped}"]
+        if desk.vehicles is not None:
+            lines += [f"gateway_vehicle_moves_total {desk.vehicles.moves}", f"gateway_vehicle_messages_bad_total {desk.vehicles.bad_messages}",
+                      f"gateway_vehicles_in_trouble {sum(it.trouble is not None for it in desk.vehicles.all)}"]
         return web.Response(text=(figures.read_text() if figures.exists() else "") + "\n".join(lines) + "\n")
 
     async def stream(self, request: web.Request) -> web.StreamResponse:

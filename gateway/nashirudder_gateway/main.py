@@ -20,6 +20,8 @@ from .door import Door
 from .guard import Guard
 from .seats import Seats
 from .site import BadSite, Site, spread
+from .vda5050 import Name
+from .words import broker_at
 
 USAGE = """nashirudder-gateway MAP (--count N | --robots CELLS) [WORD..]
        nashirudder-gateway token NAME [--operator]
@@ -67,6 +69,12 @@ def words_of(given: Optional[List[str]] = None) -> argparse.Namespace:
     words.add_argument("--name", action="append", default=[], help="a host name under which browsers reach it by a proxy")
     words.add_argument("--tokens", type=pathlib.Path, help="the file of tokens; without it only this machine is served")
     words.add_argument("--connections", type=int, default=2000, help="open at once at most (2000)")
+    words.add_argument("--mqtt", type=broker_at, metavar="HOST[:PORT]", help="vehicles carry out the plan by VDA 5050, over this MQTT broker")
+    words.add_argument("--mqtt-user", metavar="NAME", help="as whom; the password is in the environment, NASHIRUDDER_MQTT_PASSWORD")
+    words.add_argument("--mqtt-ca", type=pathlib.Path, metavar="FILE", help="TLS: the certificate of whoever signed the broker's")
+    words.add_argument("--vehicles", type=pathlib.Path, metavar="FILE", help="a line MANUFACTURER/SERIAL for each robot (nashirudder/0, ..)")
+    words.add_argument("--clearance", choices=("arrived", "started"), default="arrived", help="when a cell is clear (arrived)")
+    words.add_argument("--ahead", type=int, default=10, help="how many turns may be planned ahead of the vehicles (10)")
     words.add_argument("--keep-days", type=float, default=7.0, help="how long settled errands and their keys are kept (7)")
     return words.parse_args(given)
 
@@ -78,12 +86,28 @@ def is_loopback(host: str) -> bool:
         return False
 
 
+def names_in(path: Optional[pathlib.Path], count: int) -> List[Name]:
+    """The vehicles' names, by robot."""
+    if path is None:
+        return [Name("nashirudder", str(robot)) for robot in range(count)]
+    lines = path.read_text().split()
+    if len(lines) != count or len(set(lines)) != count or not all(re.fullmatch(r"[A-Za-z0-9_.-]{1,64}/[A-Za-z0-9_.-]{1,64}", it) for it in lines):
+        raise BadSite(f"{path} has no line MANUFACTURER/SERIAL for each of the {count} robots, each another")
+    return [Name(*it.split("/")) for it in lines]
+
+
 async def serve(asked: argparse.Namespace, who: clients.Clients) -> None:
     """Serves until SIGTERM or SIGINT."""
     robots = asked.robots if asked.robots is not None else spread(asked.map, asked.count)
     site = Site(asked.site, asked.map, robots, asked.folder, asked.period, asked.keep_every, asked.bin)
     seats = Seats(Guard(who, [*asked.name, *([] if is_loopback(asked.host) else [asked.host])]))
-    desk = Desk(site, seats.tell, asked.keep_days)
+    broker, vehicles = None, None
+    if asked.mqtt is not None:
+        from . import vehicle_site          # needs paho-mqtt and the library for C
+
+        vehicles, broker = vehicle_site.asked_for(site, asked, names_in(asked.vehicles, len(robots)))
+        seats.tells_stands = True
+    desk = Desk(site, seats.tell, asked.keep_days, vehicles)
     runner = web.AppRunner(Door(desk, seats.guard, seats).app(), access_log=None)
     await runner.setup()
     loop, server = asyncio.get_running_loop(), cast(web.Server, runner.server)
@@ -93,6 +117,8 @@ async def serve(asked: argparse.Namespace, who: clients.Clients) -> None:
 
     listening = await loop.create_server(protocol, asked.host, asked.port)
     running = asyncio.ensure_future(desk.run())
+    if broker is not None:
+        broker.start()
     over = asyncio.Event()
     for number in (signal.SIGTERM, signal.SIGINT):
         loop.add_signal_handler(number, over.set)
@@ -105,6 +131,8 @@ async def serve(asked: argparse.Namespace, who: clients.Clients) -> None:
         await desk.close()
         await runner.cleanup()
         await running
+        if broker is not None:
+            await loop.run_in_executor(None, broker.close)
 
 
 def main(given: Optional[List[str]] = None) -> int:

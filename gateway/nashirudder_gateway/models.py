@@ -50,6 +50,25 @@ class ErrandList(BaseModel):
     next: Optional[int]
 
 
+class VehicleView(BaseModel):
+    """A robot's vehicle. `cell` is the one that it reached last, `bound_for` the one to which it is released, and `planned` how many moves come
+    after that. `trouble` keeps it from being sent on."""
+
+    robot: int
+    vehicle: str
+    cell: Optional[int]
+    bound_for: Optional[int]
+    planned: int
+    trouble: Optional[str]
+
+
+class VehicleList(BaseModel):
+    """`is_set` is false until each vehicle stands where the plan can go on."""
+
+    is_set: bool
+    vehicles: List[VehicleView]
+
+
 class RobotView(BaseModel):
     """A robot. `goal` and `wait`, in ticks, are null without an errand. `eldest`: no robot has waited longer."""
 

@@ -142,6 +142,7 @@ function hear(told) {
     log(`Robot ${robot} to ${place(cell)}: ${reason || told.errand.state}`);
     if (reason) hint(`Robot ${robot} cannot be sent there: ${reason}.`);
   } else if (told.kind === "refusal") hint(`Not taken: ${told.detail}.`);
+  else if (told.kind === "stands") log(`The vehicle of robot ${told.errand.robot} stands at ${place(told.errand.cell)}`);
   else if (told.kind === "hello") state("live", "live");
 }
 
@@ -163,7 +164,8 @@ async function look() {
     if (document.body.dataset.state !== "token" && socket && socket.readyState === WebSocket.OPEN) {
       const ready = await ask("ready");
       if (!ready.is_ready) state("starting", "the fleet is starting");
-      else if (document.body.dataset.state === "starting") state("live", "live");
+      else if (ready.trouble) state("held", ready.trouble);
+      else if (["starting", "held"].includes(document.body.dataset.state)) state("live", "live");
       if (site) showRobots(await ask("robots"));
     }
   } catch { /* the socket tells when the connection is lost */ }

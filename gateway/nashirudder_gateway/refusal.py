@@ -24,6 +24,7 @@ _SENTENCES = {
     "not-ready": "the fleet is starting: the errand was not taken",
     "behind": "the fleet or the disk is behind: a post with a key may be repeated",
     "full": "the gateway has as many open errands as it may",
+    "no-vehicles": "the gateway was started without --mqtt",
     "no-socket": "this path is for WebSockets",
 }
 

@@ -9,7 +9,7 @@ from . import __version__, models
 
 REFUSED = {
     401: "no client has this token", 403: "the Host or Origin is not this gateway's, or it is for operators",
-    404: "there is no such errand or robot", 409: "see `error`: the key has another errand, the robot is shut, it is too late",
+    404: "there is no such errand or robot, or no vehicle", 409: "see `error`: the key has another errand, the robot is shut, it is too late",
     413: "the body is too long", 415: "the body is not application/json", 422: "the body, a number or the cell is at fault",
     429: "the queue is full, or the client has too much open or posts too fast: again after Retry-After seconds",
     503: "the fleet is starting or is behind: again after Retry-After seconds"}
@@ -48,6 +48,8 @@ ROUTES = (
           {200: models.ErrandView, 202: models.ErrandView}, (404, 409, 429)),
     Route("GET", "/robots", "list_robots", "All robots after the last turn", {200: models.RobotList}),
     Route("GET", "/robots/{robot}", "get_robot", "A robot after the last turn", {200: models.RobotView}, (404,)),
+    Route("GET", "/vehicles", "list_vehicles", "Each robot's vehicle: where it says it is, where it is bound for, and what keeps it from being sent on",
+          {200: models.VehicleList}, (404,)),
     Route("POST", "/robots/{robot}/shut", "shut_robot", "The robot finishes its errands and gets no more, for good", {200: models.Done},
           (404, 409), token="operator"),
     Route("POST", "/chapter", "end_chapter", "Ends the chapter, and the next begins", {200: models.Done}, (409,), token="operator"),
@@ -86,7 +88,7 @@ def describe() -> dict:
 
 
 def _reference(model: Type[BaseModel], schemas: Dict[str, dict]) -> dict:
-    schema = model.schema(ref_template="#/components/schemas/{model}")
+    schema = dict(model.schema(ref_template="#/components/schemas/{model}"))     # pydantic keeps its own for the next call
     schemas.update(schema.pop("definitions", {}))
     schemas[model.__name__] = schema
     return {"application/json": {"schema": {"$ref": f"#/components/schemas/{model.__name__}"}}}

@@ -73,6 +73,8 @@ class Seats:
     def __init__(self, guard: Guard) -> None:
         self.guard = guard
         self.dropped = 0
+        # whether "stands" comes after "arrival"
+        self.tells_stands = False
         self.take: Callable[..., Tuple[Errand, bool]]
         self._of: "collections.defaultdict[str, List[Seat]]" = collections.defaultdict(list)
         self._all: List[Seat] = []
@@ -106,7 +108,7 @@ class Seats:
             text = _text(told)
             for seat in hearers:
                 self.dropped += seat.notice(text)
-        if not what.is_open:
+        if not what.is_open and not (kind == "arrival" and self.tells_stands):
             what.seat = None
 
     def _tick(self, tick: int, cells: Optional[List[int]]) -> None:

@@ -27,6 +27,8 @@ class Site:
     period_ms: float = 100.0
     keep_every_ms: float = 1000.0
     built: Optional[str] = None
+    # whether vehicles carry out the plan: then a turn is made where it is asked for
+    has_vehicles: bool = False
     rows: List[str] = field(default_factory=list)
     limits: Dict[str, int] = field(default_factory=lambda: dict(ROOM))
 
@@ -55,8 +57,9 @@ class Site:
     async def start(self) -> FleetStream:
         """Starts the fleet, or lets it go on from its last chapter."""
         return await FleetStream.open(
-            self.map, self.robots, period_ms=self.period_ms, watch=True, traces=self.chapters, resume=True,  # type: ignore[arg-type]
-            keep_every_ms=self.keep_every_ms, metrics=self.figures, built=self.built, **self.limits)
+            self.map, self.robots, period_ms=None if self.has_vehicles else self.period_ms, watch=not self.has_vehicles,
+            traces=self.chapters, resume=True, keep_every_ms=self.keep_every_ms, metrics=self.figures, built=self.built,
+            **self.limits)  # type: ignore[arg-type]
 
     def view(self) -> dict:
         return {"name": self.name, "width": len(self.rows[0]), "height": len(self.rows), "rows": self.rows,

@@ -17,13 +17,14 @@ sys.path[:0] = [str(HERE.parent), str(HERE.parent.parent / "bindings" / "python"
 import aiohttp
 from aiohttp.test_utils import TestServer
 
-from nashirudder_gateway import routes
+from nashirudder_gateway import routes, vehicle_site
 from nashirudder_gateway.clients import Client, Clients
 from nashirudder_gateway.desk import Desk
 from nashirudder_gateway.door import Door
 from nashirudder_gateway.guard import Guard
 from nashirudder_gateway.seats import Seats
 from nashirudder_gateway.site import Site
+from nashirudder_gateway.vda5050 import Name
 
 # A ring of twelve cells around a wall, and a floor of its own in the last column: cells count row by row from 0
 RING = "type octile\nheight 4\nwidth 6\nmap\n....@.\n.@@.@@\n.@@.@@\n....@@\n"
@@ -53,16 +54,22 @@ def declared(method, path):
 class Gateway:
     """A gateway on a fleet of two robots, at the cells 0 and 3, with a turn every 10 ms."""
 
-    def __init__(self, folder, clients=None, period=10.0, keep_every=100.0, **limits):
+    def __init__(self, folder, clients=None, period=10.0, keep_every=100.0, broker=None, **limits):
         self.folder, self.clients = pathlib.Path(folder), clients or Clients()
         path = self.folder / "ring.map"
         path.write_text(RING)
         self.site = Site("ring", path, [0, 3], self.folder / "data", period, keep_every, BIN)
         self.site.limits.update(limits)
+        self.broker_at = broker
 
     async def __aenter__(self):
         self.seats = Seats(Guard(self.clients))
-        self.desk = Desk(self.site, self.seats.tell)
+        self.broker = vehicles = None
+        if self.broker_at is not None:
+            vehicles, self.broker = vehicle_site.opened(self.site, [Name("nashirudder", "0"), Name("nashirudder", "1")], self.broker_at)
+            self.seats.tells_stands = True
+            self.broker.start()
+        self.desk = Desk(self.site, self.seats.tell, vehicles=vehicles)
         self.running = asyncio.ensure_future(self.desk.run())
         self.server = TestServer(Door(self.desk, self.seats.guard, self.seats).app())
         await self.server.start_server()
@@ -75,6 +82,8 @@ class Gateway:
         await self.desk.close()
         await self.running
         await self.server.close()
+        if self.broker is not None:
+            self.broker.close()
 
     async def until(self, is_so, seconds=30):
         """Waits for what has to come."""

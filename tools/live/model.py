@@ -65,6 +65,10 @@ class Live:
         self.head.clients = len(self.world.taken)
         self.rings = talk.new_rings(self.world)
 
+    def unroomy(self):
+        """The cells that are not roomy for the robots."""
+        return talk.unroomy_cells(self.grid, len(self.world.place))
+
     def say(self, mark, line):
         self.out.append((mark + b" " if mark is not None else b"") + line.encode("latin-1") + b"\n")
 
@@ -225,7 +229,7 @@ class Live:
         if kind == "nothing":
             return
         if kind == "look":
-            self.say(mark, talk.look_line(self.world))
+            self.say(mark, talk.look_line(self.world, self.unroomy()))
         elif kind == "events" and what[0][0] == "post" and what[0][1] == 0:
             self.post(mark, 0, what[0][2])
         else:
@@ -270,7 +274,7 @@ class Live:
         if kind == "nothing":
             return True
         if kind == "look":
-            self.say(mark, talk.look_line(self.world))
+            self.say(mark, talk.look_line(self.world, self.unroomy()))
         elif kind == "open":
             if what < self.head.clients:
                 self.settle()

@@ -2,7 +2,7 @@
 
 import ctypes
 import functools
-from ctypes import POINTER, byref, c_bool, c_char, c_char_p, c_size_t, c_uint8, c_uint32, c_uint64, c_void_p
+from ctypes import POINTER, byref, c_bool, c_char, c_char_p, c_size_t, c_uint8, c_uint16, c_uint32, c_uint64, c_void_p
 from typing import Any, List, Optional, Tuple
 
 from . import finding
@@ -100,6 +100,10 @@ class CExecution(ctypes.Structure):
     _fields_ = [("at", c_void_p), ("is_open", c_bool)]
 
 
+class CShield(ctypes.Structure):
+    _fields_ = [("at", c_void_p), ("is_open", c_bool)]
+
+
 class CMove(ctypes.Structure):
     _fields_ = [("tick", c_uint64), ("robot", c_uint32), ("from", c_uint32), ("to", c_uint32)]
 
@@ -181,10 +185,16 @@ FUNCTIONS = {
     "execution_reached": (POINTER(CExecution), c_uint32, POINTER(CMove)),
     "execution_whereabouts": (POINTER(CExecution), c_uint32, POINTER(CWhereabouts)),
     "execution_progress": (POINTER(CExecution), POINTER(CProgress)),
+    "shield_open": (POINTER(CMap), c_uint32, POINTER(CShield)),
+    "shield_close": (POINTER(CShield),),
+    "shield_step": (
+        POINTER(CMap), POINTER(CShield), POINTER(c_uint32), c_size_t, POINTER(c_uint32), c_size_t, c_uint16, POINTER(c_uint32), c_size_t,
+        POINTER(c_uint32), c_size_t, POINTER(CFault),
+    ),
 }
 RESULTS = {
     "setup_default": None, "setup_endless": None, "close": None, "map_close": None, "chapter_close": None,
-    "execution_close": None,
+    "execution_close": None, "shield_close": None,
     "version": c_uint32, "is_proved": c_bool, "message": c_size_t,
 }
 

@@ -5,6 +5,7 @@
 `Fleet` has the names, arguments and exceptions of `nashirudder.Fleet`, so that a program runs with either. `Handle` has
 the calls of nashirudder.h. `Map`, `check_step`, `first_bridge` and `distances` are questions about a map, and `judge`
 is one about a map and a chapter. `Execution` carries out the plan of any planner with robots that are not in step.
+`Shield` makes a step without conflicts of what any policy wants.
 `nashirudder.finding` says where the library is looked for.
 """
 
@@ -31,6 +32,7 @@ from .opening import Text, Ties
 from .orders import Errand, Order
 from .quick_calls import QuickCalls
 from .records import Arrival, Chapter, Farewell, Look, OpenErrand, Standing
+from .shield import Shield
 from .state import Opening, OpeningClient, OpeningErrand, OpeningRobot
 from .told import Account, Judgement, Notice, Report, Taken, TickRecord
 from .turns import OwnTurns
@@ -38,7 +40,7 @@ from .turns import OwnTurns
 __all__ = [
     "FAR", "JUDGEMENT", "NOWHERE", "ORDER", "STANDING", "Account", "Arrival", "Chapter", "CloseClient", "Code",
     "EndedChapter", "Errand", "Execution", "Farewell", "Fleet", "Go", "Handle", "Judgement", "Look", "Map", "Move", "Notice", "OpenErrand",
-    "OrderRefused", "Refused", "Report", "Standing", "Opening", "OpeningClient", "OpeningErrand", "OpeningRobot", "Taken",
+    "OrderRefused", "Refused", "Report", "Shield", "Standing", "Opening", "OpeningClient", "OpeningErrand", "OpeningRobot", "Taken",
     "TickRecord", "Verdict", "Withdraw", "check_step", "distances", "first_bridge", "is_proved", "judge",
 ]
 

@@ -72,7 +72,7 @@ class LiveFleet(Closing):
     """A fleet that moves by itself, a turn every `period_ms` milliseconds; without it, a turn for each `tick`. `fleet
     live` keeps it.
 
-    With two `tickers` turns go on while a full chapter is written. `on_tick` is called with the number of each tick and
+    Turns go on while a chapter is written. `on_tick` is called with the number of each tick and
     the robots' cells, in a thread of its own, in which it may call any method. The first call may come before the
     constructor has returned. An exception of it is reported as that of any thread, and the next tick is told all the
     same. While it is slower than the fleet, ticks are left out. A full chapter is followed by the next. With `keep_every_ms` a chapter is written to `traces` at least once in this many
@@ -87,7 +87,6 @@ class LiveFleet(Closing):
         clients: int = 1,
         *,
         period_ms: Optional[float] = None,
-        tickers: int = 1,
         on_tick: Optional[OnTick] = None,
         text: Optional[Text] = None,
         ties: Ties = "plain",
@@ -105,7 +104,7 @@ class LiveFleet(Closing):
         told = opening.checked(map, robots, clients, ties, traces, limits, text)
         words = [finding.program(built), "live"]
         if period_ms is not None:
-            words += ["--period", f"{round(period_ms * 1000)}us", "--tickers", str(whole_number("tickers", tickers))]
+            words += ["--period", f"{round(period_ms * 1000)}us"]
         if on_tick is not None:
             words.append("--watch")
         if roomy:

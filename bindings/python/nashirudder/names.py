@@ -66,6 +66,14 @@ class Code(enum.IntEnum):
     NO_STEP = 64
     NO_MOVE = 65
     NOT_UNDER_WAY = 66
+    SHIELD_MAP = 70
+    SHIELD_LENGTH = 71
+    SHIELD_OUTSIDE = 72
+    SHIELD_WALL = 73
+    SHIELD_SHARED = 74
+    SHIELD_UNKNOWN = 75
+    SHIELD_TWICE = 76
+    SHIELD_FAR = 77
 
     @property
     def word(self) -> str:
@@ -155,6 +163,14 @@ SENTENCES = {
     "no-step": "the cells are no step, free of conflicts, from the placement that was planned last",
     "no-move": "no move may begin",
     "not-under-way": "the robot is not under way",
+    "shield-map": "the map has another number of cells than the shield was made for",
+    "shield-length": "a list is not as long as the shield's number of robots asks",
+    "shield-outside": "robot # stands beyond the map",
+    "shield-wall": "robot # stands on a wall",
+    "shield-shared": "robots # and % stand on one cell",
+    "shield-unknown": "place # of the order names no robot",
+    "shield-twice": "place # of the order names a robot again",
+    "shield-far": "preference % of robot # is neither its cell nor next to it",
     "client-closed": "the client is closed",
     "robot-shut": "the robot takes no further errands",
     "no-cell": "the map has no cell of this number",

@@ -124,6 +124,22 @@ pub enum Code {
     NoMove,
     /// The robot is not under way.
     NotUnderWay,
+    /// The map has another number of cells than the shield was made for.
+    ShieldMap,
+    /// A list is not as long as the shield's number of robots asks.
+    ShieldLength,
+    /// The robot `first` stands beyond the map's last cell.
+    ShieldOutside,
+    /// The robot `first` stands on a wall.
+    ShieldWall,
+    /// The robots `first` and `second` stand on one cell.
+    ShieldShared,
+    /// The place `first` of the order names no robot.
+    ShieldUnknown,
+    /// The place `first` of the order names a robot that an earlier one names.
+    ShieldTwice,
+    /// The preference `second` of the robot `first` is neither its own cell nor next to it.
+    ShieldFar,
     /// A number that the library has and this crate has not.
     Unknown(u32),
 }
@@ -184,6 +200,14 @@ impl Code {
             64 => Code::NoStep,
             65 => Code::NoMove,
             66 => Code::NotUnderWay,
+            70 => Code::ShieldMap,
+            71 => Code::ShieldLength,
+            72 => Code::ShieldOutside,
+            73 => Code::ShieldWall,
+            74 => Code::ShieldShared,
+            75 => Code::ShieldUnknown,
+            76 => Code::ShieldTwice,
+            77 => Code::ShieldFar,
             number => Code::Unknown(number),
         }
     }
@@ -244,6 +268,14 @@ impl Code {
             Code::NoStep => 64,
             Code::NoMove => 65,
             Code::NotUnderWay => 66,
+            Code::ShieldMap => 70,
+            Code::ShieldLength => 71,
+            Code::ShieldOutside => 72,
+            Code::ShieldWall => 73,
+            Code::ShieldShared => 74,
+            Code::ShieldUnknown => 75,
+            Code::ShieldTwice => 76,
+            Code::ShieldFar => 77,
             Code::Unknown(number) => number,
         }
     }
@@ -304,6 +336,14 @@ impl Code {
             Code::NoStep => "no-step",
             Code::NoMove => "no-move",
             Code::NotUnderWay => "not-under-way",
+            Code::ShieldMap => "shield-map",
+            Code::ShieldLength => "shield-length",
+            Code::ShieldOutside => "shield-outside",
+            Code::ShieldWall => "shield-wall",
+            Code::ShieldShared => "shield-shared",
+            Code::ShieldUnknown => "shield-unknown",
+            Code::ShieldTwice => "shield-twice",
+            Code::ShieldFar => "shield-far",
             Code::Unknown(_) => "unknown",
         }
     }

@@ -15,7 +15,8 @@
 //!
 //! A fleet is `Send` and `Sync`: it may move to another thread, and several threads may look at one at once.
 //!
-//! An [`Execution`] carries out the plan of any planner with robots that are not in step.
+//! An [`Execution`] carries out the plan of any planner with robots that are not in step. A [`Shield`] makes a step without
+//! conflicts of what any policy wants.
 //!
 //! Clients, robots and cells are passed as plain numbers or as [`Client`], [`RobotId`] and [`Cell`], which the compiler
 //! tells apart: `fleet.go(Client(0), RobotId(2), Cell(17))`. What is told has plain numbers.
@@ -35,6 +36,7 @@ mod order;
 mod raw;
 mod records;
 mod setup;
+mod shield;
 mod state;
 mod views;
 
@@ -49,4 +51,5 @@ pub use number::{Cell, Client, RobotId};
 pub use order::{Order, Verdict};
 pub use records::{Account, Arrival, Notice, OpenErrand, Report, Shown, Standing, State};
 pub use setup::{is_proved, Robot, Setup};
+pub use shield::Shield;
 pub use state::{Opening, OpeningClient, OpeningErrand, OpeningRobot};

@@ -28,7 +28,7 @@ fn ways_of(told: Vec<u32>) -> Vec<Option<u32>> {
 /// A map that is read once, for any number of questions.
 #[derive(Debug)]
 pub struct Map {
-    handle: Handle,
+    pub(crate) handle: Handle,
 }
 
 // SAFETY: as for a fleet; each method only looks.

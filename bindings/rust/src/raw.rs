@@ -397,6 +397,26 @@ extern "C" {
         execution: *const Handle,
         progress: *mut RawProgress,
     ) -> u32;
+    pub(crate) fn nashirudder_shield_open(
+        map: *const Handle,
+        robots: u32,
+        shield: *mut Handle,
+    ) -> u32;
+    pub(crate) fn nashirudder_shield_close(shield: *mut Handle);
+    pub(crate) fn nashirudder_shield_step(
+        map: *const Handle,
+        shield: *mut Handle,
+        from: *const u32,
+        from_length: usize,
+        order: *const u32,
+        order_length: usize,
+        each: u16,
+        preferences: *const u32,
+        preferences_length: usize,
+        to: *mut u32,
+        to_length: usize,
+        fault: *mut RawFault,
+    ) -> u32;
     pub(crate) fn nashirudder_judge(
         map: *const u8,
         map_length: usize,

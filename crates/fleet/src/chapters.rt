@@ -12,9 +12,9 @@ use std::sync::Arc;
 
 /// A folder for the traces of chapters, or none, and the error output.
 #[derive(Drop)]
-pub(crate) struct TraceFolder<'a, R, E> {
-    rt: &'a R,
-    name: Option<&'a str>,
+pub(crate) struct TraceFolder<R, E> {
+    rt: R,
+    name: Option<String>,
     error: E,
     /// The file that could not be written last, and why.
     fault: String,
@@ -72,20 +72,28 @@ fn keep_text<R: Files>(
     listed
 }
 
-impl<'a, R: Files + Alloc<A = Global>, E: Write> TraceFolder<'a, R, E> {
+/// A name of its own.
+fn own_name(alloc: Global, name: Option<&str>) -> Result<Option<String>, AllocError> {
+    match name {
+        Some(name) => Ok(Some(String::from_str(alloc, name)?)),
+        None => Ok(None),
+    }
+}
+
+impl<R: Files + Alloc<A = Global> + Copy + Drop, E: Write + Drop> TraceFolder<R, E> {
     pub(crate) fn new(
-        rt: &'a R,
-        name: Option<&'a str>,
+        rt: &R,
+        name: Option<&str>,
         trouble: Arc<Trouble>,
         error: E,
-    ) -> TraceFolder<'a, R, E> {
-        TraceFolder {
-            rt,
-            name,
+    ) -> Result<TraceFolder<R, E>, AllocError> {
+        Ok(TraceFolder {
+            rt: *rt,
+            name: own_name(rt.alloc(), name)?,
             error,
             fault: String::new(rt.alloc()),
             trouble,
-        }
+        })
     }
 
     /// Notes why the file of this name was not written.
@@ -96,7 +104,8 @@ impl<'a, R: Files + Alloc<A = Global>, E: Write> TraceFolder<'a, R, E> {
     }
 }
 
-impl<R: Files + Alloc<A = Global>, E: Write> ChapterSink for TraceFolder<'_, R, E> {
+impl<R: Files + Alloc<A = Global> + Copy + Drop, E: Write + Drop> ChapterSink
+    for TraceFolder<R, E> {
     ghost kept = { λ _. None };
 
     fn goes_on(&mut self, chapter: u32, tick: u64) {
@@ -118,16 +127,16 @@ impl<R: Files + Alloc<A = Global>, E: Write> ChapterSink for TraceFolder<'_, R, 
     }
 
     fn keep(&mut self, chapter: &Chapter) -> Result<(), SinkFault> {
-        let Some(folder) = self.name else {
+        let Some(folder) = &self.name else {
             return Ok(());
         };
-        let alloc = self.rt.alloc();
+        let (alloc, folder) = (self.rt.alloc(), folder.as_str());
         let number = chapter.number;
         let name = format!(in alloc; "{folder}/chapter-{number}.json")?;
         let beside = format!(in alloc; "{folder}/chapter-{number}.part")?;
         let text = trace_line(alloc, chapter)?;
         let names = (beside.as_str(), name.as_str());
-        match keep_text(self.rt, folder, names, text.as_bytes()) {
+        match keep_text(&self.rt, folder, names, text.as_bytes()) {
             Ok(()) => {
                 self.trouble.clear();
                 Ok(())

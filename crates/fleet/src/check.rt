@@ -29,6 +29,15 @@ fn answer_files<'a, R: Files + Alloc<A = Global>>(
     Ok(answer_check(rt.alloc(), rules, scenario, &map, &plan)?)
 }
 
+/// Prints which forms there are. Returns the status.
+pub(crate) fn no_such_form<E: Write>(error: &mut E) -> u8 {
+    write_whole(
+        error,
+        b"error: invalid value for '--form <FORM>'\n  [possible values: lines, bare, agents, table, yaml, lorr, lorr-planner]\n",
+    );
+    2
+}
+
 /// Judges the plan. Returns the status: 0 the plan is valid, 2 no such form, 3 a file failed, 4 the map or 5 the
 /// scenario is refused, 6 the plan cannot be read or is not valid, 7 memory ran out.
 pub(crate) fn run_check<R: Files + Alloc<A = Global>, W: Write, E: Write>(
@@ -40,13 +49,7 @@ pub(crate) fn run_check<R: Files + Alloc<A = Global>, W: Write, E: Write>(
     let form = match check.form {
         FormAsked::Found => None,
         FormAsked::Named(form) => Some(form),
-        FormAsked::Unknown => {
-            write_whole(
-                error,
-                b"error: invalid value for '--form <FORM>'\n  [possible values: lines, bare, agents, table, yaml, lorr, lorr-planner]\n",
-            );
-            return 2;
-        }
+        FormAsked::Unknown => return no_such_form(error),
     };
     match answer_files(rt, form, check) {
         Ok(said) => tell(&said, output, error),

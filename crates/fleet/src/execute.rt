@@ -1,10 +1,12 @@
 //! The word `execute`.
 
-ghost use Rattle.std.specs.Prelude.{◌≤◌, vec_len, IfOk};
+ghost use Rattle.std.specs.Prelude.{◌≤◌, ◌<◌, vec_len, IfOk, IfSome};
 
+use crate::check::no_such_form;
 use crate::ends::{FileFault, MOST_MAP_BYTES, complain, file_bytes};
 use fleet_lib::{
-    Clearance, Execute, ExecuteTexts, InputFault, MOST_PLAN_BYTES, fail, run_execute, write_whole,
+    Clearance, Execute, ExecuteRules, ExecuteTexts, FormAsked, InputFault, MOST_PLAN_BYTES, fail,
+    run_execute, write_whole,
 };
 use std::alloc::{Alloc, Global};
 use std::fs::Files;
@@ -30,7 +32,9 @@ fn clearance_asked(word: &Option<String>) -> Option<Clearance> {
 }
 
 /// The number that the word says, if it is one from 1; `AHEAD` if there is no word.
-fn ahead_asked(word: &Option<String>) -> Option<u32> {
+fn ahead_asked(word: &Option<String>) -> Option<u32>
+    ensures { IfSome result (λ ahead. 0 < ahead) }
+{
     let Some(word) = word else {
         return Some(AHEAD);
     };
@@ -74,6 +78,11 @@ pub(crate) fn execute_plan<R: Files + Alloc<A = Global>, I: Read + Drop, W: Writ
         );
         return 2;
     };
+    let form = match execute.form {
+        FormAsked::Found => None,
+        FormAsked::Named(form) => Some(form),
+        FormAsked::Unknown => return no_such_form(error),
+    };
     let (map, plan) = match texts_of(rt, execute) {
         Ok(texts) => texts,
         Err(fault) => return complain(rt, fault, error),
@@ -82,8 +91,10 @@ pub(crate) fn execute_plan<R: Files + Alloc<A = Global>, I: Read + Drop, W: Writ
         return fail(InputFault::NoMemory, error);
     };
     let texts = ExecuteTexts {
+        form,
         map: &map,
         plan: &plan,
     };
-    run_execute(rt, texts, (clearance, ahead), (&mut input, output), error)
+    let rules = ExecuteRules { clearance, ahead };
+    run_execute(rt, texts, rules, &mut input, output, error)
 }

@@ -176,7 +176,7 @@ pub(crate) fn hold_live<
     F: Write + Send + Drop + 'static,
     E: Write + Copy + Send + Drop + 'static,
     G: Write,
-    S: ChapterSink + Send + Drop,
+    S: ChapterSink + Send + Drop + 'static,
 >(
     rt: &R,
     (live, kept): (&Live, &Option<KeptFile>),
@@ -213,41 +213,36 @@ pub(crate) fn hold_live<
 
 /// What a fleet in real time is kept with: its streams, where its chapters and figures go, and what notes why one of
 /// them failed.
-pub(crate) struct Kit<'a, I, W, R, E> {
+pub(crate) struct Kit<I, W, R, E> {
     pub(crate) troubles: Troubles,
     pub(crate) talk: (Stream<I, R>, Stream<W, R>),
     pub(crate) told: (Outlet<E, R>, Option<Outlet<E, R>>),
-    pub(crate) sink: TraceFolder<'a, R, E>,
+    pub(crate) sink: TraceFolder<R, E>,
 }
 
 /// Streams and a sink that note why they fail, and where they note it. The folder of the chapters may have a name.
-type Noted<'a, I, W, R, E> = (
-    Troubles,
-    (Stream<I, R>, Stream<W, R>),
-    TraceFolder<'a, R, E>,
-);
+type Noted<I, W, R, E> = (Troubles, (Stream<I, R>, Stream<W, R>), TraceFolder<R, E>);
 
-fn noted<'a, R: Files + Alloc<A = Global> + Copy + Drop, I: Drop, W: Drop, E: Write + Drop>(
-    rt: &'a R,
-    folder: Option<&'a str>,
+fn noted<R: Files + Alloc<A = Global> + Copy + Drop, I: Drop, W: Drop, E: Write + Drop>(
+    rt: &R,
+    folder: Option<&str>,
     talk: (I, W),
     error: E,
-) -> Result<Noted<'a, I, W, R, E>, AllocError> {
+) -> Result<Noted<I, W, R, E>, AllocError> {
     let troubles = Troubles::new(rt.alloc())?;
     let talk = troubles.streams(rt, talk)?;
-    let sink = TraceFolder::new(rt, folder, troubles.folder()?, error);
+    let sink = TraceFolder::new(rt, folder, troubles.folder()?, error)?;
     Ok((troubles, talk, sink))
 }
 
 /// What the fleet of these words is kept with, its chapters in the folder that they name, if they name one. The error is
 /// the status, and is said.
 pub(crate) fn kit_of<
-    'a,
     R: Files + Alloc<A = Global> + Copy + Drop,
     I: Drop,
     W: Drop,
     E: Write + Copy + Drop,
->(rt: &'a R, live: &'a Live, talk: (I, W), error: &mut E) -> Result<Kit<'a, I, W, R, E>, u8> {
+>(rt: &R, live: &Live, talk: (I, W), error: &mut E) -> Result<Kit<I, W, R, E>, u8> {
     let (troubles, talk, sink) = match noted(rt, live.traces.as_deref(), talk, *error) {
         Ok(noted) => noted,
         Err(AllocError) => return Err(fail(InputFault::NoMemory, error)),

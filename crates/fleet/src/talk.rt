@@ -116,7 +116,7 @@ fn talk_on<
     let name = talk.traces.as_deref();
     let troubles = Troubles::new(alloc)?;
     let ends = troubles.streams(rt, ends)?;
-    let sink = TraceFolder::new(rt, name, troubles.folder()?, *error);
+    let sink = TraceFolder::new(rt, name, troubles.folder()?, *error)?;
     let mut said = Vec::new(alloc);
     let status = hold_talk(rt, (talk, settings), kept, ends, &mut said, sink);
     troubles.tell(alloc, (status, &said), name.unwrap_or(""), error);

@@ -3,6 +3,7 @@ mod AsBox
 mod AsChapterBox
 mod AsExecutionBox
 mod AsMapBox
+mod AsShieldBox
 mod BoxWalk
 mod Counted
 mod InTurn

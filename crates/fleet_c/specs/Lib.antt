@@ -18,4 +18,6 @@ pub mod Floors
 pub mod Judged
 pub mod OwnsExecution
 pub mod Executions
+pub mod OwnsShield
+pub mod Shields
 pub mod inside

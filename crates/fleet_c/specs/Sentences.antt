@@ -75,6 +75,17 @@ execution_text code =
     else if code == 65 then codes "no move may begin"
     else codes "the robot is not under way"
 
+abbrev pub shield_text : ℕ → List ℕ
+shield_text code =
+    if code == 70 then codes "the map has another number of cells than the shield was made for"
+    else if code == 71 then codes "a list is not as long as the shield's number of robots asks"
+    else if code == 72 then codes "robot # stands beyond the map"
+    else if code == 73 then codes "robot # stands on a wall"
+    else if code == 74 then codes "robots # and % stand on one cell"
+    else if code == 75 then codes "place # of the order names no robot"
+    else if code == 76 then codes "place # of the order names a robot again"
+    else codes "preference % of robot # is neither its cell nor next to it"
+
 -- whether a number is at least this one, and below the end
 abbrev pub is_in : ℕ → ℕ → ℕ → Bool
 is_in least end n = nat_le least n && nat_lt n end
@@ -90,6 +101,7 @@ sentence_of code =
     else if is_in 40 50 code then step_text code
     else if is_in 50 58 code then trace_text code
     else if is_in 60 67 code then execution_text code
+    else if is_in 70 78 code then shield_text code
     else codes "there is no such code"
 
 -- a byte of a sentence, or the number that stands for it

@@ -114,3 +114,20 @@ pub const NO_STEP: u32 = 64;
 pub const NO_MOVE: u32 = 65;
 /// The robot is not under way.
 pub const NOT_UNDER_WAY: u32 = 66;
+
+/// The map has another number of cells than the shield was made for.
+pub const SHIELD_MAP: u32 = 70;
+/// The cells, the order, the preferences or the new cells are not as many as the shield's robots need.
+pub const SHIELD_LENGTH: u32 = 71;
+/// The robot stands beyond the map's last cell.
+pub const SHIELD_OUTSIDE: u32 = 72;
+/// The robot stands on a wall.
+pub const SHIELD_WALL: u32 = 73;
+/// The two robots stand on one cell.
+pub const SHIELD_SHARED: u32 = 74;
+/// The place of the order names no robot.
+pub const SHIELD_UNKNOWN: u32 = 75;
+/// The place of the order names a robot that an earlier one names.
+pub const SHIELD_TWICE: u32 = 76;
+/// The robot's preference at that place is neither its own cell nor a neighbour of it.
+pub const SHIELD_FAR: u32 = 77;

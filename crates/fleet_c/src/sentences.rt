@@ -1,7 +1,7 @@
 //! A sentence for each code. In it `#` stands for the first number of the fault, and `%` for the second.
 
 ghost use Rattle.std.specs.Prelude.{◌≡◌, ◌≤◌, length};
-ghost use Rattle.fleet_c.specs.Sentences.{call_text, fleet_text, open_text, step_text, trace_text, execution_text, sentence_of};
+ghost use Rattle.fleet_c.specs.Sentences.{call_text, fleet_text, open_text, step_text, trace_text, execution_text, shield_text, sentence_of};
 
 /// What is wrong with a call, whatever it is.
 fn call_text(code: u32) -> &'static str
@@ -115,6 +115,23 @@ fn execution_text(code: u32) -> &'static str
     }
 }
 
+/// What a shield refuses.
+fn shield_text(code: u32) -> &'static str
+    ensures text { result.now ≡ shield_text code }
+    ensures short { length result.now ≤ 120 }
+{
+    match code {
+        70 => "the map has another number of cells than the shield was made for",
+        71 => "a list is not as long as the shield's number of robots asks",
+        72 => "robot # stands beyond the map",
+        73 => "robot # stands on a wall",
+        74 => "robots # and % stand on one cell",
+        75 => "place # of the order names no robot",
+        76 => "place # of the order names a robot again",
+        _ => "preference % of robot # is neither its cell nor next to it",
+    }
+}
+
 /// The sentence for a code.
 pub(crate) fn sentence_of(code: u32) -> &'static str
     ensures text { result.now ≡ sentence_of code }
@@ -132,6 +149,8 @@ pub(crate) fn sentence_of(code: u32) -> &'static str
         trace_text(code)
     } else if 60 <= code && code < 67 {
         execution_text(code)
+    } else if 70 <= code && code < 78 {
+        shield_text(code)
     } else {
         "there is no such code"
     }

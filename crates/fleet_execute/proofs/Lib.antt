@@ -1,2 +1,4 @@
 mod Steps
 mod Lengths
+mod Dialogues
+mod Cells

@@ -1,3 +1,4 @@
 pub mod Endings
 pub mod Folder
 mod Judged
+mod Executions

@@ -182,6 +182,7 @@ pub record IsMapJob (rows : List Row) (asked : MapJob) : Type 0 where
 pub record IsExecute (rows : List Row) (execute : ExecuteJob) : Type 0 where
   pub clearance : first_of (codes "clearance") rows ≡ option_map (λ s. string_bytes s) execute.clearance
   pub ahead : first_of (codes "ahead") rows ≡ option_map (λ s. string_bytes s) execute.ahead
+  pub form : execute.form ≡ form_in rows
   pub floor : first_of (codes "MAP") rows ≡ Some (string_bytes execute.map)
   pub plan : first_of (codes "PLAN") rows ≡ Some (string_bytes execute.plan)
 

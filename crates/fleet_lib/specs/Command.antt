@@ -48,10 +48,10 @@ abbrev pub map_app : App
 map_app = with_rules (new_app (codes "map"))
     (number_rule (codes "robots") ∷ value_rule (codes "cells") ∷ flag_rule (codes "json") ∷ flag_rule (codes "prune") ∷ flag_rule (codes "svg") ∷ flag_rule (codes "mend") ∷ file_rule (codes "MAP") ∷ [])
 
--- execute [--clearance RULE] [--ahead N] MAP PLAN
+-- execute [--clearance RULE] [--ahead N] [--form FORM] MAP PLAN
 abbrev pub execute_app : App
 execute_app = with_rules (new_app (codes "execute"))
-    (value_rule (codes "clearance") ∷ number_rule (codes "ahead") ∷ file_rule (codes "MAP") ∷ file_rule (codes "PLAN") ∷ [])
+    (value_rule (codes "clearance") ∷ number_rule (codes "ahead") ∷ value_rule (codes "form") ∷ file_rule (codes "MAP") ∷ file_rule (codes "PLAN") ∷ [])
 
 -- fleet, which tells its version and wants a word
 abbrev pub fleet_app : App

@@ -13,5 +13,5 @@ pub mod Check
 pub mod Command
 pub mod Asked
 pub mod Judge
-pub mod Heard
+pub mod Execute
 pub mod Length

@@ -1,7 +1,9 @@
 -- The result of the word `map`.
-use Rattle.std.specs.Prelude.{ℕ, List, [], ◌++◌, codes, decimal}
+use Rattle.std.specs.Prelude.{◌≡◌, ℕ, List, Option, [], ◌++◌, codes, decimal}
 use Rattle.fleet_text.specs.declared.said.Complaint.TheVariants as complaint
 use Rattle.fleet_text.specs.Complaint.{complaint_text}
+use Rattle.fleet_survey.specs.Answer.{IsFault, IsTold}
+use Rattle.fleet_survey.specs.declared.answer.SurveyForm.{SurveyForm}
 use Rattle.fleet_survey.specs.declared.fault.SurveyFault.{SurveyFault}
 use Rattle.fleet_survey.specs.declared.fault.SurveyFault.TheVariants as fault
 use Rattle.fleet_lib.specs.Said.{Outcome}
@@ -19,3 +21,8 @@ fault_status fault.NoMemory = 7
 
 abbrev pub faulty : SurveyFault → Outcome
 faulty f = record { output = []; status = fault_status f; complaint = codes "fleet: " ++ (fault_text f ++ codes "\n") }
+
+-- what is told of the text of a map, for n robots and a list of cells; or why nothing is
+pub data IsMapOutcome (form : SurveyForm) (n : ℕ) (map : List ℕ) (cells : Option (List ℕ)) (o : Outcome) : Type 0 where
+  told : (text : List ℕ) → IsTold form n map cells text → o ≡ record { output = text; status = 0; complaint = [] } → IsMapOutcome form n map cells o
+  refused : (why : SurveyFault) → IsFault form map cells why → o ≡ faulty why → IsMapOutcome form n map cells o

@@ -145,7 +145,7 @@ fn noted(alloc: Global, found: Option<Misspelt>, said: Said) -> Result<Said, All
 }
 
 /// The form in which a plan is read: the one that is named, or else that of the text.
-fn form_by(form: Option<TextForm>, plan: &[u8]) -> TextForm
+pub(crate) fn form_by(form: Option<TextForm>, plan: &[u8]) -> TextForm
     ensures { result ≡ form_by form plan.now }
 {
     match form {

@@ -31,6 +31,7 @@ pub use explain::{
     MOST_SCRIPT_BYTES, answer_explain_head, answer_explain_map, answer_explain_plan,
     answer_explain_script, answer_explain_trace,
 };
+pub use fleet_execute::ExecuteRules;
 pub use fleet_history::Chapter;
 pub use fleet_live::{LiveEnds, Pipes};
 pub use fleet_plans::{MOST_PLAN_BYTES, TextForm, is_plan};

@@ -29,6 +29,7 @@ enum BadWord {
     Robots,
     Clients,
     Period,
+    /// `--tickers`, which programs before took.
     Tickers,
     KeepEvery,
     /// `--keep-every` without a folder to keep chapters in.
@@ -114,19 +115,6 @@ fn add_words(alloc: Global, head: &mut Head, live: &Live) -> Result<(), BadWord>
     Ok(())
 }
 
-/// How many tickers a word asks for: one or two.
-fn tickers_in(word: &[u8]) -> Option<u32>
-    ensures some { IfSome result (λ n. (1 ≤ n) × (n ≤ 2) × (number_of word.now ≡ Some n)) }
-    ensures none { IfNone result ((n : ℕ) → number_of word.now ≡ Some n → (n ≡ 0) ⊎ (2 < n)) }
-{
-    let number = number_up_to(word, 3)?;
-    if number == 1 || number == 2 {
-        Some(number as u32)
-    } else {
-        None
-    }
-}
-
 /// The microseconds that a word says, if there is one. One that says no time is at fault.
 fn time_in(word: &Option<String>, fault: BadWord) -> Result<Option<u32>, BadWord> {
     match word {
@@ -141,13 +129,9 @@ fn time_in(word: &Option<String>, fault: BadWord) -> Result<Option<u32>, BadWord
 /// How the fleet is kept.
 fn settings_of(live: &Live) -> Result<LiveSettings, BadWord> {
     let period = time_in(&live.period, BadWord::Period)?;
-    let tickers = match &live.tickers {
-        None => 1,
-        Some(word) => match tickers_in(word.as_bytes()) {
-            Some(tickers) => tickers,
-            None => return Err(BadWord::Tickers),
-        },
-    };
+    if live.tickers.is_some() {
+        return Err(BadWord::Tickers);
+    }
     let keep_every = time_in(&live.keep_every, BadWord::KeepEvery)?;
     if keep_every.is_some() && live.traces.is_none() {
         return Err(BadWord::NoFolder);
@@ -160,7 +144,6 @@ fn settings_of(live: &Live) -> Result<LiveSettings, BadWord> {
     }
     Ok(LiveSettings {
         period,
-        tickers,
         keep_every,
         chapter_bytes,
         watch: live.watch,
@@ -176,7 +159,9 @@ fn complain_of_word<E: Write>(word: BadWord, error: &mut E) -> u8 {
         BadWord::Robots => "error: invalid value for '--robots <CELLS>'\n",
         BadWord::Clients => "error: invalid value for '--clients <N>'\n",
         BadWord::Period => "error: invalid value for '--period <TIME>'\n",
-        BadWord::Tickers => "error: invalid value for '--tickers <N>'\n",
+        BadWord::Tickers => {
+            "error: '--tickers' is no word any more: turns go on while a chapter is written\n"
+        }
         BadWord::KeepEvery => "error: invalid value for '--keep-every <TIME>'\n",
         BadWord::NoFolder => "error: '--keep-every' needs '--traces <DIR>'\n",
         BadWord::ChapterBytes => "error: invalid value for '--chapter-bytes <N>'\n",
@@ -198,7 +183,7 @@ fn keep_with_hooks<
     P: Read + Send + Drop + 'static,
     Q: Write + Send + Drop + 'static,
     E: Write + Send + Drop + 'static,
-    S: ChapterSink + Send + Drop,
+    S: ChapterSink + Send + Drop + 'static,
 >(
     rt: &R,
     (grid, head): (Grid, Head),
@@ -235,7 +220,7 @@ pub fn run_live<
     P: Read + Send + Drop + 'static,
     Q: Write + Send + Drop + 'static,
     E: Write + Send + Drop + 'static,
-    S: ChapterSink + Send + Drop,
+    S: ChapterSink + Send + Drop + 'static,
     F: Write,
 >(rt: &R, texts: TalkTexts<'_>, live: &Live, ends: LiveEnds<I, W, P, Q, E, S>, error: &mut F) -> u8
     requires { length texts.script.now ≤ 16777216 }

@@ -1,8 +1,9 @@
 //! The word `map`.
 
 ghost use Rattle.std.specs.Prelude.{◌≡◌, IfOk, string_bytes};
+ghost use Rattle.std.specs.Option.{option_copied};
 ghost use Rattle.fleet_lib.specs.Said.{said_of};
-ghost use Rattle.fleet_lib.specs.Map.{fault_text, fault_status, faulty};
+ghost use Rattle.fleet_lib.specs.Map.{IsMapOutcome, fault_text, fault_status, faulty};
 
 use crate::check::{printed, refused};
 use crate::said::Said;
@@ -52,7 +53,9 @@ pub fn answer_map(
     robots: u32,
     map: &[u8],
     cells: Option<&[u8]>,
-) -> Result<Said, AllocError> {
+) -> Result<Said, AllocError>
+    ensures { IfOk result (λ s. IsMapOutcome form robots map.now (option_copied cells.entry) (said_of s)) }
+{
     match survey_text(alloc, form, robots, map, cells) {
         Ok(text) => printed(alloc, &text, 0),
         Err(fault) => faulty(alloc, fault),

@@ -1,2 +1,11 @@
-pub mod Handing
+pub mod Beginning
+pub mod ByPlace
+pub mod Counting
+pub mod Cut
+pub mod Kept
+pub mod Pulled
+pub mod Quits
 pub mod Refusing
+pub mod Sent
+pub mod Sound
+pub mod Taking

@@ -1,5 +1,5 @@
 -- How a fleet in real time is opened, and how it ends.
-use Rattle.std.specs.Prelude.{ℕ, Bool, true, List, Result, Ok, Err}
+use Rattle.std.specs.Prelude.{⊤, ℕ, Bool, true, false, List, Result, Ok, Err}
 use Rattle.fleet_grid.specs.Floor.{Floor}
 use Rattle.fleet_core.specs.OpeningFaults.{IsRefused}
 use Rattle.fleet_core.specs.declared.faults.OpenFault.{OpenFault}
@@ -34,3 +34,14 @@ ended_by Input limited = Err talk.Input
 ended_by Output limited = Err talk.Output
 ended_by Sink limited = Err talk.Sink
 ended_by NoMemory limited = Err talk.NoMemory
+
+-- why a fleet counts as stopped: what stopped it comes first, then a chapter that was not kept, and then a text that was not written
+abbrev pub else_cause : Stop → Result ⊤ Stop → Bool → Stop
+else_cause stop (Err fault) is_written = fault
+else_cause stop (Ok _) true = stop
+else_cause stop (Ok _) false = Output
+
+abbrev pub cause : Stop → Result ⊤ Stop → Bool → Stop
+cause Quit kept is_written = else_cause Quit kept is_written
+cause Limit kept is_written = else_cause Limit kept is_written
+cause stop kept is_written = stop

@@ -1,2 +1,10 @@
+pub mod Batch
+pub mod Begin
+pub mod Counts
 pub mod Ended
-pub mod Handed
+pub mod Loop
+pub mod Pace
+pub mod Place
+pub mod Quit
+pub mod Taken
+pub mod Told

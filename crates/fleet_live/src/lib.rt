@@ -1,27 +1,37 @@
-//! A fleet in real time: clients talk to an office, each conversation in threads of its own, while turns are made at
-//! their deadlines or on demand.
+//! A fleet in real time, or on demand: one loop over one fleet. Readers split lines, writers write, one more thread
+//! keeps chapters, and rings lead from and to them.
 #![tactic(auto)]
 
-mod bell;
-mod conversation;
+mod archiving;
+mod batch;
 mod conversations;
-mod doors;
-mod ending;
-mod granting;
-mod hearing;
-mod inbox;
-mod keeper;
-mod listening;
+mod counts;
+mod desk;
+mod ended;
+mod ends;
+mod events;
+mod handing;
+mod keeping;
+mod leaving;
+mod lines_in;
+mod link;
+mod listeners;
 mod live;
 mod opening;
 mod pace;
+mod place;
+mod reading;
+mod report_out;
+mod reports;
 mod resuming;
 mod serving;
-mod stage;
-mod telling;
-mod threads;
-mod tickers;
-mod voice;
+mod shelf;
+mod source;
+mod text_out;
+mod timing;
+mod turns;
+mod wake;
+mod writing;
 
 pub use live::keep_live;
 pub use live_parts::{LiveEnds, LiveSettings, Pipes, read_period};

@@ -114,21 +114,3 @@ module _ {A C E : Type 0} (w v : World A) (ends : List (EndView A)) (t : ℕ) wh
   pub hall-stays : (r : Result C E) → OnErr r (v ≡ w) → OnErr r (hall_of v ends t ≡ hall_of w ends t)
   hall-stays (Ok x) e = tt
   hall-stays (Err x) e = ap (λ u. hall_of u ends t) e
-
--- what is left of a lawful hall is its chapter
-pub handed-last : {A : Type 0} (rings : List (LaneName A)) (began : World A) (v : HallView A) (h : History A) (n : ℕ) → IsLawful rings began v.world v.ends v.total →
-    EachTick (IsPlanned v.world.floor v.world.ties) v.world.history →
-    AdvancesIfRoomy v.world.floor v.world.history →
-    (HasBound v.world.floor v.world.history → WaitsAreBounded v.world.floor v.world.history) →
-    h ≡ v.world.history → n ≡ v.world.number → (hall : HallView A) × IsChapterOf rings began hall n h
-handed-last rings began v h n lawful planned advancing bounded is number = (
-  v,
-  record {
-    lawful = lawful;
-    history = is;
-    number = number;
-    planned = subst (EachTick (IsPlanned v.world.floor v.world.ties)) (sym is) planned;
-    advancing = subst (AdvancesIfRoomy v.world.floor) (sym is) advancing;
-    bounded = subst (λ k. HasBound v.world.floor k → WaitsAreBounded v.world.floor k) (sym is) bounded;
-  },
-)

@@ -1,6 +1,6 @@
 -- How many notices were given.
 use Rattle.std.proofs.Common.{◌≡◌, ℕ, zero, suc, ◌+◌, ◌*◌, ◌^◌, ◌<◌, ◌≤◌, List, [], ◌∷◌, ◌++◌, Bool, true, false, length, set, get_or, Some, refl, ap, sym, ◌∙◌, arith, subst, ⊎_elim, length-append}
-use Rattle.std.specs.List.{slice_get, sum_by, AllByRecursion}
+use Rattle.std.specs.List.{slice_get, sum_by}
 use Rattle.std.proofs.lemmas.List.Sums.{sum_by-cons, sum_by-set}
 use Rattle.std.proofs.lemmas.Option.{get_or_from_slice_get}
 use Rattle.std.proofs.Math.ListN.{length-set}
@@ -40,16 +40,6 @@ module _ {A : Type 0} where
   countable rings began w ends t h few =
       let all = at_most (λ (e : EndView A). length e.given) (2 ^ 57) ends (each_few rings began w ends t h few) in
       omega (arith, all, h.few)
-
-  all_few : (ends : List (EndView A)) → ((k : ℕ) (e : EndView A) → slice_get ends k ≡ Some e → length e.given ≤ 2 ^ 57) → AllByRecursion (λ e. length e.given < 2 ^ 64) ends
-  all_few [] h = tt
-  all_few (e ∷ ends) h = (omega (arith, h 0 e refl), all_few ends (λ k x there. h (suc k) x there))
-
-  -- what each was given can be counted
-  pub each_countable : (rings : List (LaneName A)) (began : World A) (w : World A) (ends : List (EndView A)) (t : ℕ) → IsLawful rings began w ends t
-      → ((c : ℕ) → c < clients w.history → noticed_count w.history c + owed w.history c ≤ 2 ^ 57)
-      → AllByRecursion (λ e. length e.given < 2 ^ 64) ends
-  each_countable rings began w ends t h few = all_few ends (each_few rings began w ends t h few)
 
   abbrev given_of : Lists A → ℕ
   given_of l = length l.given

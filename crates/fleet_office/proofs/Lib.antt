@@ -1,7 +1,6 @@
 pub mod Places
 pub mod Pairs
 pub mod Sinces
-pub mod Pasts
 pub mod Laws
 pub mod TakeSteps
 pub mod GiveSteps
@@ -22,4 +21,3 @@ pub mod Counted
 pub mod TurnSteps
 pub mod TickSteps
 pub mod Never
-pub mod GivenSteps

@@ -1,27 +1,24 @@
 -- The law of the lock at an opening.
-use Rattle.std.proofs.Common.{◌≡◌, ℕ, zero, suc, ◌++◌, List, [], ◌∷◌, length, map, get_or, replicate, Some, refl, ap, sym, ◌∙◌, subst, arith}
+use Rattle.std.proofs.Common.{◌≡◌, ℕ, zero, suc, ◌++◌, List, [], ◌∷◌, length, get_or, replicate, Some, refl, ap, sym, ◌∙◌, subst, arith}
 use Rattle.std.specs.Prelude.{slice_get}
 use Rattle.std.specs.Option.{option_map}
-use Rattle.std.specs.List.{range_with_len}
 use Rattle.std.proofs.lemmas.List.{length-map, length-replicate}
-use Rattle.std.proofs.lemmas.List.FromFn.{length-range_with_len}
 use Rattle.std.proofs.lemmas.Option.{slice_get-map}
 use Rattle.fleet_grid.specs.Floor.{Floor}
 use Rattle.fleet_book.specs.declared.limits.Limits.{Limits}
 use Rattle.fleet_history.specs.declared.history.ClientState.{ClientState}
-use Rattle.fleet_history.specs.declared.history.Opening.{Opening}
-use Rattle.fleet_history.specs.History.{History, start, clients, clock, unknown_client}
+use Rattle.fleet_history.specs.History.{clients, unknown_client}
 use Rattle.fleet_history.specs.Legal.{IsLegal}
 use Rattle.fleet_core.specs.Hooks.{HookLaws}
 use Rattle.fleet_core.specs.Pending.{Pending, no_pending}
 use Rattle.fleet_core.specs.Opening.{AreInRange}
 use Rattle.fleet_core.specs.Core.{World, pending, opened_world}
-use Rattle.fleet_core.specs.Resuming.{empty_box, resumed_world}
 use Rattle.fleet_lanes.specs.Names.{LaneName}
 use Rattle.fleet_lanes.specs.Ends.{EndView, ClientView}
 use Rattle.fleet_office.specs.Views.{ArePairs, AreOn, ClientCore, core, cores, rings_of}
 use Rattle.fleet_office.specs.Hall.{IsLawful}
-use Rattle.fleet_office.specs.Since.{GoesOn, IsUnused}
+use Rattle.fleet_office.specs.Since.{GoesOn}
+use Rattle.fleet_office.specs.inside.Openings.{IsUnused}
 use Rattle.fleet_office.proofs.Places.{at_map}
 use Rattle.fleet_office.proofs.Sinces.{goes-begins, since-begins}
 
@@ -29,11 +26,6 @@ no_notice : (n k limit : ℕ) → (get_or (replicate {A = Pending} n (record { n
 no_notice zero k limit = refl
 no_notice (suc n) zero limit = refl
 no_notice (suc n) (suc k) limit = no_notice n k limit
-
-no_empty : {A : Type 0} (h : History A) (room : ℕ) (cs : List ℕ) (k : ℕ) → (get_or (map (empty_box h room) cs) k no_pending).notices ≡ []
-no_empty h room [] k = refl
-no_empty h room (c ∷ cs) zero = refl
-no_empty h room (c ∷ cs) (suc k) = no_empty h room cs k
 
 -- the place of the other list
 beside : {X Y : Type 0} (xs : List X) (ys : List Y) (k : ℕ) (x : X) → length xs ≡ length ys → slice_get xs k ≡ Some x → (y : Y) × (slice_get ys k ≡ Some y)
@@ -46,25 +38,19 @@ module _ {A : Type 0} where
   ring_at : (ends : List (EndView A)) (k : ℕ) (e : EndView A) → slice_get ends k ≡ Some e → slice_get (rings_of ends) k ≡ Some e.lane
   ring_at ends k e at = slice_get-map (λ x. x.lane) ends k ∙ ap (option_map (λ x. x.lane)) at
 
-  -- a world that was just opened, and one that goes on from an opening
+  -- a world that was just opened
   pub opened-unused : (m : Floor) (starts : List ℕ) (n : ℕ) (limits : Limits) (laws : HookLaws) → IsUnused (opened_world {A = A} m starts n limits laws)
   opened-unused m starts n limits laws = record {
     entries = refl;
+    clock = refl;
     box_count = length-replicate {A = Pending} n (record { notices = []; limit = limits.mailbox }) ∙ sym (length-replicate {A = ClientState} n unknown_client);
     boxes = λ c. no_notice n c limits.mailbox;
   }
 
-  pub resumed-unused : (m : Floor) (number : ℕ) (o : Opening A) (limits : Limits) (laws : HookLaws) → IsUnused (resumed_world m number o limits laws)
-  resumed-unused m number o limits laws = record {
-    entries = refl;
-    box_count = length-map (range_with_len 0 (length o.clients)) (empty_box (start o) limits.mailbox) ∙ length-range_with_len 0 (length o.clients);
-    boxes = λ c. no_empty (start o) limits.mailbox (range_with_len 0 (length o.clients)) c;
-  }
-
   -- the lock's law over such a world
   pub over-unused : (w : World A) (limits : Limits) (cs : List (ClientView A)) (es : List (EndView A)) (rings : List (LaneName A)) (t : ℕ) → ArePairs cs es limits → rings_of es ≡ rings →
-      AreInRange (length cs) w.limits → IsUnused w → IsLegal w.floor w.history → length cs ≡ clients w.history → t ≡ clock w.history → IsLawful rings w w es t
-  over-unused w limits cs es rings t pairs named range unused legal count now = record {
+      AreInRange (length cs) w.limits → IsUnused w → IsLegal w.floor w.history → length cs ≡ clients w.history → t ≡ 0 → IsLawful rings w w es t
+  over-unused w limits cs es rings t pairs named range unused legal count none_made = record {
     laws = λ k e at.
         let c = beside es cs k e (sym pairs.count) at in
         let new = pairs.each k c.0 e c.1 at in
@@ -76,7 +62,7 @@ module _ {A : Type 0} where
         };
     since = since-begins w unused.entries legal;
     legal = legal;
-    clock = now;
+    clock = none_made ∙ sym unused.clock;
     box_count = unused.box_count;
     end_count = sym pairs.count ∙ count;
     ring_count = simp length-map at (ap length named);

@@ -1,4 +1,4 @@
--- Orders and notices since an office began go on with each entry, with each chapter, and in the next office.
+-- Orders and notices since an office began go on with each entry and with each chapter.
 use Rattle.std.proofs.Common.{◌≡◌, ℕ, ◌+◌, ◌<◌, List, [], ◌∷◌, ◌++◌, length, map, refl, ap, sym, ◌∙◌, subst, arith, append_assoc, length-append}
 use Rattle.std.specs.Prelude.{slice_index_or}
 use Rattle.std.proofs.lemmas.List.{append-nil, map-append, length-map}
@@ -162,44 +162,6 @@ module _ {A : Type 0} (first : History A) (m : Floor) (h : History A) (c : ℕ) 
     accepted = on.accepted;
     keeps = λ before heard held. ring-next m h c (before ++ taken) (heard ++ ns) lawful known (on.keeps before heard held);
   }
-
-  -- ---- the next office
-
-  module _ (end : History A) (more : List Order) (heard : List Notice) (second : GoesOn (start (next_opening h)) end c more heard) where
-    taken_before : (client_at (start (next_opening h)) c).taken ≡ (client_at first c).taken + length taken
-    taken_before = omega (arith, on.taken_length, start-taken h c known)
-
-    told_before : (client_at (start (next_opening h)) c).noticed ≡ (client_at first c).noticed + length ns
-    told_before = omega (arith, on.told_length, start-noticed h c known)
-
-    accepted_before : (client_at (start (next_opening h)) c).accepted ≡ (client_at first c).accepted + length (flat_map accepted_number ns)
-    accepted_before = omega (arith, on.accepted_length, start-accepted h c known)
-
-    pub goes-together : GoesOn first end c (taken ++ more) (ns ++ heard)
-    goes-together = record {
-      taken_end = let p = second.taken_end in (taken ++ p.0, append_assoc taken p.0 (orders end c) ∙ ap (λ t. taken ++ t) p.1);
-      told_end = let p = second.told_end in (ns ++ p.0, append_assoc ns p.0 (notices end c) ∙ ap (λ t. ns ++ t) p.1);
-      taken_length = omega (arith, second.taken_length, taken_before, length-append taken more);
-      told_length = omega (arith, second.told_length, told_before, length-append ns heard);
-      accepted_length = omega (
-        arith,
-        second.accepted_length,
-        accepted_before,
-        ap length (flat_map-append accepted_number ns heard),
-        length-append (flat_map accepted_number ns) (flat_map accepted_number heard),
-      );
-      seqs = rw (map-append seq_of ns heard, length-append ns heard)
-          (numbered-append (map seq_of ns) (map seq_of heard) (client_at first c).noticed (client_at (start (next_opening h)) c).noticed (length ns) (length heard) on.seqs told_before second.seqs);
-      orders = rw (flat_map-append order_number ns heard, length-append taken more)
-          (numbered-append (flat_map order_number ns) (flat_map order_number heard) (client_at first c).taken (client_at (start (next_opening h)) c).taken (length taken) (length more) on.orders taken_before second.orders);
-      accepted = rw (flat_map-append accepted_number ns heard, length-append (flat_map accepted_number ns) (flat_map accepted_number heard))
-          (numbered-append (flat_map accepted_number ns) (flat_map accepted_number heard) (client_at first c).accepted (client_at (start (next_opening h)) c).accepted
-          (length (flat_map accepted_number ns)) (length (flat_map accepted_number heard)) on.accepted accepted_before second.accepted);
-      keeps = λ before known_of held.
-          subst (λ t. KeepsRing end c t (known_of ++ (ns ++ heard))) (append_assoc before taken more)
-          (subst (KeepsRing end c ((before ++ taken) ++ more)) (append_assoc known_of ns heard)
-          (second.keeps (before ++ taken) (known_of ++ ns) (goes-next.keeps before known_of held)));
-    }
 
 -- ---- what it says
 

@@ -3,7 +3,6 @@ pub use Rattle.fleet_core.specs.OpeningFaults
 pub mod Views
 pub mod Since
 pub mod Hall
-pub mod Given
 pub mod Draining
 pub mod Shown
 pub mod Concluded

@@ -14,9 +14,6 @@ use Rattle.fleet_pibt.specs.Eldest.{IsEldest}
 use Rattle.fleet_planner.specs.Planned.{waits}
 use Rattle.fleet_planner.specs.Aimed.{IsIdle}
 use Rattle.fleet_core.specs.Core.{World}
-use Rattle.fleet_core.specs.OpenErrands.{open_errands, queued}
-use Rattle.fleet_core.specs.declared.open_errands.OpenErrand.{OpenErrand}
-use Rattle.fleet_core.specs.declared.queues.QueueReport.{QueueReport}
 use Rattle.fleet_office.specs.declared.look.Look.{Look}
 use Rattle.fleet_office.specs.declared.waits.WaitReport.{WaitReport}
 use Rattle.fleet_office.specs.Views.{TickView}
@@ -51,14 +48,3 @@ pub record ShowsWaits {A : Type 0} (w : World A) (report : WaitReport) : Type 0 
   pub exact : IfSome report.limit (λ most. most ≡ wait_limit (robots w.history) (floor_count w.floor))
   -- no wait reaches it
   pub above : IfSome report.limit (λ most. (r ticks : ℕ) → r < robots w.history → wait w.history r ≡ Some ticks → ticks < most)
-
--- these are the client's errands in this world that are accepted, and neither done nor withdrawn
-pub record ShowsOpen {A : Type 0} (w : World A) (client : ℕ) (found : List OpenErrand) : Type 0 where
-  pub legal : IsLegal w.floor w.history
-  pub exact : found ≡ open_errands w.history client
-
--- the report shows how long the queues of the robots of this world are
-pub record ShowsQueues {A : Type 0} (w : World A) (report : QueueReport) : Type 0 where
-  pub legal : IsLegal w.floor w.history
-  pub total : report.total ≡ queued w.history
-  pub longest : report.longest ≡ longest_after w.history

@@ -4,19 +4,13 @@ use Rattle.std.specs.List.{flat_map}
 use Rattle.fleet_grid.specs.Floor.{Floor}
 use Rattle.fleet_book.specs.declared.notice.Notice.{Notice}
 use Rattle.fleet_book.specs.declared.order.Order.{Order}
-use Rattle.fleet_history.specs.History.{History, robots, clients, client_at, taken_count, accepted_count}
+use Rattle.fleet_history.specs.History.{History, robots, client_at, taken_count, accepted_count}
 use Rattle.fleet_history.specs.Laws.{orders}
 use Rattle.fleet_history.specs.Legal.{IsLegal}
 use Rattle.fleet_history.specs.Notices.{notices, noticed_count, seq_of}
 use Rattle.fleet_history.specs.Numbering.{numbers_behind, order_number, accepted_number}
 use Rattle.fleet_history.specs.Rings.{IsEndOf, KeepsRing}
-use Rattle.fleet_core.specs.Core.{World, pending}
-
--- the world is at the beginning of a chapter, and no notice waits in a mailbox
-pub record IsUnused {A : Type 0} (w : World A) : Type 0 where
-  pub entries : w.history.entries ≡ []
-  pub box_count : length w.mailboxes ≡ clients w.history
-  pub boxes : (c : ℕ) → (pending w c).notices ≡ []
+use Rattle.fleet_core.specs.Core.{World}
 
 -- the world of an office that began with the first world: of the same map, limits and tie laws, in the same chapter or a later one
 pub record IsSince {A : Type 0} (began w : World A) : Type 0 where

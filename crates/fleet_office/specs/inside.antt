@@ -3,3 +3,4 @@ pub mod Causes
 pub mod Lanes
 pub mod Leftovers
 pub mod LastTicks
+pub mod Openings

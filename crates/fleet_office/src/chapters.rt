@@ -1,8 +1,7 @@
 //! How an office goes from one chapter of its history to the next.
 
 ghost use Rattle.std.specs.Prelude.{◌≡◌, ◌+◌, ◌<◌, ◌≤◌, ◌^◌, ◌↔◌, length, None, Ok, Err, OnOk, OnErr, IfOk, IfSome};
-ghost use Rattle.fleet_grid.specs.Floor.{Floor};
-ghost use Rattle.fleet_history.specs.History.{clock, history_of};
+ghost use Rattle.fleet_history.specs.History.{history_of};
 ghost use Rattle.fleet_history.specs.Laws.{EachTick};
 ghost use Rattle.fleet_history.specs.Legal.{IsLegal};
 ghost use Rattle.fleet_planner.specs.Planned.{IsPlanned};
@@ -11,10 +10,10 @@ ghost use Rattle.fleet_bound.specs.Roomy.{AdvancesIfRoomy, HasBound};
 ghost use Rattle.fleet_office.specs.Chapters.{IsChapterOf, HandsOutGrown};
 ghost use Rattle.fleet_office.specs.Hall.{HallView, IsLawful, next_hall};
 
-use crate::hall::{Hall, HallOf};
+use crate::hall::Hall;
 use crate::hall_state::HallState;
 use crate::names::OfficeName;
-use crate::office::{Office, OfficeOf};
+use crate::office::Office;
 use fleet_core::ChapterFault;
 use fleet_history::Chapter;
 use std::alloc::Allocator;
@@ -55,22 +54,6 @@ impl<N: OfficeName<A>, A: Allocator + Copy> HallState<N, A> {
             Ok(chapter) => Ok(Some(chapter)),
             Err(fault) => Err(fault),
         }
-    }
-
-    /// The chapter, and the number of ticks made in all chapters.
-    pub(crate) fn into_chapter(self) -> (Chapter<A>, u64)
-        ensures history { history_of result.0 ≡ self.world.history }
-        ensures number { result.0.number ≡ self.world.number }
-        ensures tick { result.1 ≡ clock self.world.history }
-    {
-        let tick = self.clock();
-        let HallState {
-            core,
-            ends: _,
-            book: _,
-        } = self;
-        let (_grid, chapter) = core.finish();
-        (chapter, tick)
     }
 }
 
@@ -132,18 +115,5 @@ impl<N: OfficeName<A>, A: Allocator + Copy> Office<N, A> {
         let hall = &mut *held;
         hall.state.recall_laws();
         hall.grown_chapter(least)
-    }
-
-    /// Ends an office that cannot be concluded: returns its chapter as it is, and the number of ticks made in all
-    /// chapters. Orders that are left in lanes, and notices that clients had not collected, are let go.
-    pub fn into_chapter(self) -> (Chapter<A>, u64)
-        requires { 0 ≤ 1 }
-        ensures chapter { (h : HallView A) × IsChapterOf N.rings N.start h result.0.number (history_of result.0) }
-        ensures tick { result.1 ≡ clock (history_of result.0) }
-    {
-        let OfficeOf { hall } = self;
-        let HallOf { state, robots: _ } = hall.into_inner();
-        state.recall_laws();
-        state.into_chapter()
     }
 }

@@ -1,11 +1,12 @@
 //! What an office keeps under its lock.
 
 ghost use Rattle.std.specs.Prelude.{◌≡◌, ◌+◌, ◌<◌, ◌≤◌, ◌^◌, ◌↔◌, true, false, ℕ, length, Err, IfOk, IfErr, IfSome, OnOk, OnErr};
-ghost use Rattle.fleet_history.specs.History.{clock, robots, is_shut};
+ghost use Rattle.fleet_history.specs.History.{clients, clock, robots, is_shut};
 ghost use Rattle.fleet_core.specs.Hooks.{laws_of};
 ghost use Rattle.fleet_core.specs.OpeningFaults.{IsRefused, IsNamed as IsNamedFault};
 ghost use Rattle.fleet_core.specs.Core.{Shuts, HasRoom, HasNoRoom, HasEntries, HasNoEntries};
 ghost use Rattle.fleet_office.specs.Views.{IsNamed, AreOn, cores, world_at};
+ghost use Rattle.fleet_office.specs.inside.Openings.{IsUnused};
 ghost use Rattle.fleet_office.specs.Hall.{ShowsOrder, TakesOne, GivesAll, given_count, TicksOnce, Turns, StopsTurn, Looks};
 
 use crate::desk::Desk;
@@ -94,6 +95,33 @@ impl<N: OfficeName<A>, A: Allocator + Copy> Hall<N, A> {
             Ok(world) => Ok(Hall::over(desk, world)),
             Err(fault) => Err(fault),
         }
+    }
+
+    /// The hall over the desk's lanes and a world that was just opened, its clients, and a ticker that has all parts of
+    /// the ledger.
+    fn over(desk: Desk<A>, world: World<A>) -> (Hall<N, A>, Vec<Client<A>, A>, Ticker<N>)
+        requires named { IsNamed desk N.name N.parts N.rings }
+        requires start { N.start ≡ world.core }
+        requires unused { IsUnused world.core }
+        requires clients { length desk.clients ≡ clients world.core.history }
+        requires limits { desk.limits ≡ world.core.limits }
+        ensures hall { result.0.state.world ≡ world.core }
+        ensures clients { (result.1.items ≡ desk.clients) × AreOn N.rings (cores result.1.items) }
+        ensures ticker { result.2 ≡ record { count = 0; parts = 65536 } }
+    {
+        let Desk {
+            limits: _,
+            clients,
+            ends,
+            blank,
+        } = desk;
+        let (core, robots) = world.apart();
+        // States that the world's chapter is legal.
+        let _ = core.chapter();
+        let (book, share) = blank.open::<N>();
+        let state = HallState::new(core, ends, book);
+        let ticker = Ticker::new(65536, share);
+        (HallOf { state, robots }, clients, ticker)
     }
 }
 

@@ -17,6 +17,6 @@ mod waits;
 pub use aims::Aims;
 pub use courses::Courses;
 pub use lending::{Lending, RoomLists, lend};
-pub use planner::Planner;
+pub use planner::{KEPT_BYTES, Planner, first_goal, has_no_bridge, put_turns};
 pub use turns::GoalChange;
 pub use waits::{eldest, is_nobody};

@@ -30,7 +30,7 @@ use std::marker::Model;
 use std::thread::Threads;
 
 /// The bytes of fields that are kept where nothing else is said: 256 MiB.
-const KEPT_BYTES: usize = 256 << 20;
+pub const KEPT_BYTES: usize = 256 << 20;
 
 /// What each robot aims at, the means to plan a step, and the fields of goals that no robot has any more.
 #[derive(Drop)]
@@ -233,7 +233,11 @@ fn aim_fronts<A: Allocator + Copy>(
 }
 
 /// The turns that a tick to these cells brings, sorted by robot, in place of what the list held.
-fn put_turns<A: Allocator + Copy>(state: &FleetState<A>, to: &[u32], turns: &mut Vec<GoalChange, A>)
+pub fn put_turns<A: Allocator + Copy>(
+    state: &FleetState<A>,
+    to: &[u32],
+    turns: &mut Vec<GoalChange, A>,
+)
     requires same { length to.now ≡ robot_count state.now }
     requires few { length to.now ≤ 512 }
     requires room { length to.now ≤ vec_capacity turns.old }
@@ -254,7 +258,7 @@ fn put_turns<A: Allocator + Copy>(state: &FleetState<A>, to: &[u32], turns: &mut
 
 /// The robot of an accepted order and the cell, if the errand is the robot's first. The state is that before the order
 /// is entered.
-fn first_goal<A: Allocator + Copy>(
+pub fn first_goal<A: Allocator + Copy>(
     state: &FleetState<A>,
     order: Order,
     verdict: Verdict,
@@ -283,7 +287,7 @@ fn goal_after<A: Allocator + Copy>(state: &FleetState<A>, robot: u32) -> Option<
 }
 
 /// Whether the map has no bridge.
-fn has_no_bridge<A: Allocator + Copy>(alloc: A, grid: &Grid<A>) -> Result<bool, AllocError>
+pub fn has_no_bridge<A: Allocator + Copy>(alloc: A, grid: &Grid<A>) -> Result<bool, AllocError>
     ensures { IfOk result (λ none. IsTrue none ↔ IsBridgeless (IsNeighbour grid.now)) }
 {
     Ok(first_bridge(alloc, grid)?.is_none())

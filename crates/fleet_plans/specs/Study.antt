@@ -24,7 +24,11 @@ pub data IsFormStudy (asked : Asked) (m : Map) (form : TextForm) (text : List �
 abbrev pub IsTextStudy : Asked → Map → List ℕ → PlanAnswer → List (List ℕ) → Type 0
 IsTextStudy asked m text a places = IsFormStudy asked m (form_of text) text a places
 
--- the map before both
-pub data IsStudy (map text : List ℕ) (s : Study) : Type 0 where
-  without_map : (fault : MapFault) → map_of map ≡ Err fault → s.answer ≡ answer.Map fault → IsStudy map text s
-  with_map : (m : Map) → map_of map ≡ Ok m → s.width ≡ m.width → IsTextStudy Nothing m text s.answer s.places → IsStudy map text s
+-- the map before both; the text is read in this form
+pub data IsStudyBy (form : TextForm) (map text : List ℕ) (s : Study) : Type 0 where
+  without_map : (fault : MapFault) → map_of map ≡ Err fault → s.answer ≡ answer.Map fault → IsStudyBy form map text s
+  with_map : (m : Map) → map_of map ≡ Ok m → s.width ≡ m.width → IsFormStudy Nothing m form text s.answer s.places → IsStudyBy form map text s
+
+-- in the form of the text
+abbrev pub IsStudy : List ℕ → List ℕ → Study → Type 0
+IsStudy map text s = IsStudyBy (form_of text) map text s

@@ -4,7 +4,7 @@ ghost use Rattle.std.specs.Prelude.{◌≡◌, ◌≤◌, length, IfOk};
 ghost use Rattle.fleet_map.specs.Form.{HasSides};
 ghost use Rattle.fleet_map.specs.Grammar.{view};
 ghost use Rattle.fleet_plans.specs.Goals.{Nothing};
-ghost use Rattle.fleet_plans.specs.Study.{IsFormStudy, IsStudy};
+ghost use Rattle.fleet_plans.specs.Study.{IsFormStudy, IsStudy, IsStudyBy};
 
 use crate::answer::{PlanAnswer, answer_text, map_fault, sides_of};
 use crate::form::{TextForm, form_of};
@@ -49,14 +49,19 @@ fn study_on(alloc: Global, map: MapText, form: TextForm, text: &[u8]) -> Result<
     })
 }
 
-/// What `check_texts` answers to the text of a map and of a plan, together with the plan's placements. The only error
-/// is out of memory.
-pub fn study_texts(alloc: Global, map: &[u8], text: &[u8]) -> Result<Study, AllocError>
+/// What `check_form` answers to the text of a map and of a plan that is read in this form, if no goals are asked for, together
+/// with the plan's placements. The only error is out of memory.
+pub fn study_form(
+    alloc: Global,
+    form: TextForm,
+    map: &[u8],
+    text: &[u8],
+) -> Result<Study, AllocError>
     requires { length text.now ≤ MOST_PLAN_BYTES }
-    ensures { IfOk result (λ s. IsStudy map.now text.now s) }
+    ensures { IfOk result (λ s. IsStudyBy form map.now text.now s) }
 {
     match read_map(alloc, map) {
-        Ok(map) => study_on(alloc, map, form_of(text), text),
+        Ok(map) => study_on(alloc, map, form, text),
         Err(fault) => {
             let fault = map_fault(fault)?;
             Ok(Study {
@@ -66,4 +71,12 @@ pub fn study_texts(alloc: Global, map: &[u8], text: &[u8]) -> Result<Study, Allo
             })
         }
     }
+}
+
+/// The same, in the form of the text.
+pub fn study_texts(alloc: Global, map: &[u8], text: &[u8]) -> Result<Study, AllocError>
+    requires { length text.now ≤ MOST_PLAN_BYTES }
+    ensures { IfOk result (λ s. IsStudy map.now text.now s) }
+{
+    study_form(alloc, form_of(text), map, text)
 }

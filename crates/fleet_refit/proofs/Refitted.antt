@@ -63,4 +63,5 @@ refitted {A} s t changes m out r are on handed = record {
   grid = handed.grid ∙ on ∙ ap plan_map (sym handed.site);
   opening = handed.opening ∙ ap opening_of (sym handed.site);
   numbers = handed.numbers ∙ ap (λ (u : SiteView A). moving_numbers u.seats) (sym handed.site);
+  someone = handed.someone;
 }

@@ -1,5 +1,7 @@
+pub mod Account
 pub mod Changed
 pub mod Fault
+pub mod InOrder
 pub mod Map
 pub mod Opening
 pub mod Refit

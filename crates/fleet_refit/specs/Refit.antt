@@ -1,5 +1,5 @@
 -- A site after changes, and what its fleet goes on with.
-use Rattle.std.specs.Prelude.{◌≡◌, ℕ, List, [], ◌++◌, Some, slice_get, take}
+use Rattle.std.specs.Prelude.{◌≡◌, ◌<◌, ℕ, List, [], ◌++◌, Some, length, slice_get, take}
 use Rattle.fleet_grid.specs.Floor.{Floor}
 use Rattle.fleet_refit.specs.declared.change.Change.{Change}
 use Rattle.fleet_refit.specs.declared.change.ChangeFault.{ChangeFault}
@@ -54,6 +54,8 @@ pub record IsHanded {A : Type 0} (s : SiteView A) (m : Floor) (out : List Droppe
   pub dropped : r.dropped.items ≡ out
   pub opening : r.opening ≡ opening_of s
   pub numbers : r.numbers.items ≡ moving_numbers s.seats
+  -- at least one robot moves
+  pub someone : 0 < length r.numbers.items
 
 -- what the changes come to
 pub record IsRefit {A : Type 0} (s : SiteView A) (changes : List Change) (r : Refit A) : Type 0 where
@@ -61,3 +63,5 @@ pub record IsRefit {A : Type 0} (s : SiteView A) (changes : List Change) (r : Re
   pub grid : r.grid ≡ plan_map r.site
   pub opening : r.opening ≡ opening_of r.site
   pub numbers : r.numbers.items ≡ moving_numbers r.site.seats
+  -- at least one robot moves
+  pub someone : 0 < length r.numbers.items

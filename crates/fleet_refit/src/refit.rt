@@ -1,7 +1,10 @@
 //! A site after changes, and what its fleet goes on with.
 
 ghost use Rattle.std.specs.Prelude.{◌≡◌, ◌++◌, IfErr, IfOk, OnOk};
+ghost use Rattle.fleet_history.specs.Legal.{IsInOrder};
+ghost use Rattle.fleet_refit.specs.Account.{AreAccounted};
 ghost use Rattle.fleet_refit.specs.Changed.{AreMade};
+ghost use Rattle.fleet_refit.specs.InOrder.{IsSiteInOrder};
 ghost use Rattle.fleet_refit.specs.Map.{plan_map};
 ghost use Rattle.fleet_refit.specs.Refit.{AreRefused, IsHanded, IsRefit, IsUnopened};
 ghost use Rattle.fleet_refit.specs.Settled.{AreSettled};
@@ -110,6 +113,9 @@ impl<A: Allocator + Copy> Site<A> {
     /// cannot be made leaves nothing done.
     pub fn refit(&self, alloc: A, changes: &[Change]) -> Result<Refit<A>, RefitFault>
         ensures done { IfOk result (IsRefit self.now changes.now) }
+        ensures accounted { IfOk result (λ refit. AreAccounted self.now refit.site refit.dropped.items) }
+        ensures in_order { IfOk result (λ refit. IsSiteInOrder self.now → IsSiteInOrder refit.site) }
+        ensures opening { IfOk result (λ refit. IsSiteInOrder self.now → IsInOrder refit.grid refit.opening) }
         ensures refused { IfErr result (AreRefused self.now changes.now) }
     {
         let mut dropped = Vec::new(alloc);

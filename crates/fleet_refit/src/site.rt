@@ -2,6 +2,8 @@
 
 ghost use Rattle.std.specs.Prelude.{◌≡◌, ◌*◌, ◌≤◌, IfOk, length, map};
 ghost use Rattle.fleet_grid.specs.Floor.{floor_of};
+ghost use Rattle.fleet_history.specs.Legal.{IsInOrder};
+ghost use Rattle.fleet_refit.specs.InOrder.{IsSiteInOrder};
 ghost use Rattle.fleet_refit.specs.Site.{first_site, moving};
 
 use crate::copying::{copied_clients, copied_robot, copied_seats};
@@ -61,7 +63,8 @@ impl<A: Allocator + Copy> Site<A> {
         requires slim { map.width ≤ 1024 }
         requires covered { length map.cells.items ≡ map.height * map.width }
         requires few { length opening.now.robots ≤ 512 }
-        ensures { IfOk result (λ site. site ≡ first_site (floor_of map.height map.width map.cells.items) opening.now) }
+        ensures site { IfOk result (λ site. site ≡ first_site (floor_of map.height map.width map.cells.items) opening.now) }
+        ensures in_order { IfOk result (λ site. IsInOrder (floor_of map.height map.width map.cells.items) opening.now → IsSiteInOrder site) }
     {
         let alloc = *map.cells.allocator();
         let seats = moving_seats(alloc, opening)?;

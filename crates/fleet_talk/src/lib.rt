@@ -34,6 +34,7 @@ pub use ground::{Ground, MOST_LINE, MOST_ROBOTS, TALK_LIMITS};
 pub use heading::read_head;
 pub use input_line::{LineFault, read_line};
 pub use law::{a_conversation_is_a_run, a_head_is_by_its_lines, a_script_is_a_run};
+pub use look::look_text;
 pub use marks::add_marked;
 pub use resuming::{ResumeFault, world_with_door};
 pub use resumption::resume;

@@ -29,12 +29,9 @@ fn blocked_ahead(
     blocked_at(alloc, world.grid(), world.placement(), robot, errand.cell)
 }
 
-/// The line of a look at the world, by what `fleet_bridge::roominess` returned for its map.
-pub(crate) fn look_text(
-    alloc: Global,
-    world: &World,
-    roominess: &[u32],
-) -> Result<String, AllocError>
+/// The line of a look at the world, by what `fleet_bridge::roominess` returned for its map. `AllocError` if memory runs
+/// out.
+pub fn look_text(alloc: Global, world: &World, roominess: &[u32]) -> Result<String, AllocError>
     requires { AreRoomyFor world.now.core.floor roominess.now }
     ensures { IfOk result (λ text. IsLook world.now.core (string_bytes text)) }
 {

@@ -36,14 +36,14 @@ impl<A: Allocator + Copy> Waiting<A> {
     }
 
     /// How many orders wait.
-    pub(crate) fn lane_len(&self) -> usize
+    pub fn lane_len(&self) -> usize
         ensures { result ≡ length self.now.lane }
     {
         self.lane.len()
     }
 
     /// How many notices wait.
-    pub(crate) fn outlet_len(&self) -> usize
+    pub fn outlet_len(&self) -> usize
         ensures { result ≡ length self.now.outlet }
     {
         self.outlet.len()

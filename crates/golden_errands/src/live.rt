@@ -6,8 +6,7 @@
 //! conversation watch, and each `+ fails` has the sink fail once more, `+ fails always` for good. The other lines are
 //! those of the first conversation. What is said is written at once, since the fleet's threads own the writer.
 //!
-//! `+ period TIME` keeps the fleet in real time, `+ tickers N` with N tickers, by a clock that stands still but where a
-//! line `~ COUNT MICROS` moves it on by MICROS microseconds: when COUNT more lines were printed, and the fleet waits
+//! `+ period TIME` keeps the fleet in real time, by a clock that stands still but where a line `~ COUNT MICROS` moves it on by MICROS microseconds: when COUNT more lines were printed, and the fleet waits
 //! for its next deadline. A line `~ COUNT` waits for the lines alone. Each `+ pipe LINE` is a line of client 0, which
 //! then has a conversation of its own. What it is told, and the counts of each minute, are printed as they come.
 
@@ -47,14 +46,13 @@ fn word(alloc: Global, case: Conversation<'_>, start: &[u8]) -> Result<Option<St
 /// The words of a fleet of two robots and two clients.
 fn words(alloc: Global, case: Conversation<'_>) -> Result<Live, AllocError> {
     let period = word(alloc, case, b"+ period ")?;
-    let tickers = word(alloc, case, b"+ tickers ")?;
     Ok(Live {
         map: String::new(alloc),
         script: None,
         robots: Some(String::from_str(alloc, "0,8")?),
         clients: Some(String::from_str(alloc, "2")?),
         period,
-        tickers,
+        tickers: None,
         traces: None,
         resume: false,
         resume_only: false,

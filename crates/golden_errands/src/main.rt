@@ -9,6 +9,7 @@
 //! - `== twoways`: whether two ways of judging traces come to one answer, on seeded worlds and damaged traces. It has
 //!   no rows.
 //! - `== maps`: what `fleet map` says of maps.
+//! - `== executions`: what `fleet execute` writes.
 //! - `== talk`: what is said in conversations as `fleet talk` holds them, also by readers, writers and sinks that
 //!   fail.
 //! - `== live`: what is said in the first conversation of fleets on demand, as `fleet live` keeps them, and what was
@@ -19,6 +20,7 @@
 #![tactic(auto)]
 
 mod cases;
+mod executions;
 mod live;
 mod maps;
 mod options;
@@ -53,6 +55,7 @@ fn tell<R: Alloc<A = Global> + Threads + Sync + Wait>(
         "streams" => streams::tell(rt, section.text, told),
         "twoways" => twoways::tell(rt, told, notes),
         "maps" => maps::tell(rt.alloc(), section.text, told),
+        "executions" => executions::tell(rt, section.text, told),
         "talk" => talk::tell(rt, section.text, told),
         _ => Ok(()),
     }

@@ -33,6 +33,9 @@ or_then : (a b c : Bool) → ((a || b) || c) ≡ (a || (b || c))
 or_then true b c = refl
 or_then false b c = refl
 
+pub met-then : (met : Bool) (xs ys : List Act) → ((met || met_by xs) || met_by ys) ≡ (met || met_by (xs ++ ys))
+met-then met xs ys = or_then met (met_by xs) (met_by ys) ∙ ap (λ m. met || m) (sym (list_any-append meets_limit xs ys))
+
 -- ---- runs
 
 pub runs-then : (s m t : Talk Global) (xs ys : List Act) → Runs s xs m → Runs m ys t → Runs s (xs ++ ys) t
@@ -73,7 +76,7 @@ went-none a = record {
 pub went-then : (a b c : At) (xs ys : List Act) → Went a xs b → Went b ys c → Went a (xs ++ ys) c
 went-then a b c xs ys x y = record {
   runs = runs-then a.fleet.talk b.fleet.talk c.fleet.talk xs ys x.runs y.runs;
-  met = y.met ∙ (ap (λ m. m || met_by ys) x.met ∙ (or_then a.fleet.met (met_by xs) (met_by ys) ∙ ap (λ m. a.fleet.met || m) (sym (list_any-append meets_limit xs ys))));
+  met = y.met ∙ (ap (λ m. m || met_by ys) x.met ∙ met-then a.fleet.met xs ys);
   count = y.count ∙ x.count;
   tells = λ k. y.tells k ∙ (ap (λ (l : List ℕ). l ++ told_to k ys) (x.tells k) ∙ (append_assoc (text_at a.out k) (told_to k xs) (told_to k ys) ∙ ap (λ (l : List ℕ). text_at a.out k ++ l) (sym (flat_map-append (told_by k) xs ys))));
   hands = y.hands ∙ (ap (λ (l : List (ChapterView Global)). l ++ chapters_of ys) x.hands ∙ (append_assoc a.out.chapters (chapters_of xs) (chapters_of ys) ∙ ap (λ (l : List (ChapterView Global)). a.out.chapters ++ l) (sym (flat_map-append handed_by xs ys))));

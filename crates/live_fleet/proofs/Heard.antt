@@ -39,7 +39,7 @@ pub obeys-as : {T E : Type 0} (r : Result T E) (k : ℕ) (line : Line) (asked de
 obeys-as r k line asked demand s t is it = subst (λ (d : Demand). OnOk r ((sp : Speaker) → slice_get s.speakers k ≡ Some sp → (acts : List Act) × Obeys k sp line d s acts t)) (sym is) it
 
 pub hears-of : {T E : Type 0} (r : Result T E) (k : ℕ) (bytes : List ℕ) (s t : Stage) (read new : Speaker) (line : Line) (asked : Demand) → k < length s.speakers → read ≡ get_or s.speakers k read → new ≡ numbered read
-    → line ≡ line_let_in s.refused new.lines bytes → asked ≡ demand_of new.rights line.asked line.told
+    → line ≡ line_let_in s.door.refused new.lines bytes → asked ≡ demand_of new.rights line.asked line.told
     → OnOk r ((sp : Speaker) → slice_get (slice_set s.speakers k new) k ≡ Some sp → (acts : List Act) × Obeys k sp line asked (with_speaker s k new) acts t) → OnOk r ((acts : List Act) × HearsLine k bytes s acts t)
 hears-of (Ok v) k bytes s t read new line asked less at counts is asks it =
     let (acts, obeys) = it new (put-there s.speakers k new less) in (

@@ -1,10 +1,10 @@
 -- What each part of what a fleet does keeps, and that it went on so.
-use Rattle.std.proofs.Common.{◌≡◌, ◌∙◌, ℕ, ◌+◌, Bool, true, false, ◌&&◌, ◌⊎◌, inl, inr, List, [], ◌∷◌, ◌++◌, length, map, Option, Some, None, Result, Ok, Err, Vec, refl, sym, ap, subst, arith, append_assoc}
-use Rattle.std.specs.Prelude.{MatchBool, MatchOption, ◌==◌, if◌then◌else◌, slice_get, slice_set}
+use Rattle.std.proofs.Common.{◌≡◌, ◌∙◌, ℕ, ◌+◌, Bool, true, false, List, [], ◌∷◌, ◌++◌, length, Option, Result, Ok, Err, Vec, refl, sym, ap, subst}
+use Rattle.std.specs.Prelude.{MatchBool, ◌==◌, if◌then◌else◌}
 use Rattle.std.specs.List.{range_with_len}
 use Rattle.std.specs.declared.alloc.Global.{Global}
 use Rattle.std.proofs.lemmas.List.{length-map, length-set}
-use Rattle.fleet_book.specs.declared.event.Event.TheVariants.{Tick, Shut}
+use Rattle.fleet_book.specs.declared.event.Event.TheVariants.{Shut}
 use Rattle.fleet_book.specs.declared.order.Order.{Order}
 use Rattle.fleet_lanes.specs.declared.fault.PostFault.{PostFault}
 use Rattle.fleet_talk.specs.Ask.{Line}
@@ -15,87 +15,25 @@ use Rattle.live_parts.specs.declared.demand.Wanted.{Wanted}
 use Rattle.live_parts.specs.declared.demand.Wanted.TheVariants as wanted
 use Rattle.live_fleet.specs.declared.rest.Rest.{Rest}
 use Rattle.live_fleet.specs.declared.rest.Rest.TheVariants as rest
-use Rattle.live_fleet.specs.declared.speaker.Clients.{Clients}
 use Rattle.live_fleet.specs.declared.speaker.Speaker.{Speaker}
 use Rattle.live_fleet.specs.Act.{Act}
 use Rattle.live_fleet.specs.Answering.{Answers, at_once, waits}
 use Rattle.live_fleet.specs.Asking.{Grants, ShutsOne, TurnsChapter}
 use Rattle.live_fleet.specs.Asking as asking
-use Rattle.live_fleet.specs.Does.{Does, HandsDue, MakesTurn, Plays, ShowsTurn}
+use Rattle.live_fleet.specs.Does.{Does, HandsDue, PlaysUnread, ShowsTurn}
 use Rattle.live_fleet.specs.Ending.{Ends, TakesLeft, at_end}
-use Rattle.live_fleet.specs.Hearing.{HearsLine, IfOwn, Obeys, Opens, is_own}
-use Rattle.live_fleet.specs.Open.{is_open}
+use Rattle.live_fleet.specs.Hearing.{IfOwn, Obeys, Opens, is_own}
 use Rattle.live_fleet.specs.Party.{Heard, Stage, with_at, with_rest, with_speaker, resting}
 use Rattle.live_fleet.specs.Party as heard
 use Rattle.live_fleet.specs.Posting.{Posts, SettlesAll, SettlesIf}
-use Rattle.live_fleet.specs.Resting.{Continues, EndsAnswer, GoesOn, KeptAt, KeptFor, NotesKept, TellsRest, TicksOnce, TicksThen, goes_on}
+use Rattle.live_fleet.specs.Resting.{Continues, EndsAnswer, KeptAt, KeptFor, TellsRest, TicksOnce, TicksThen, goes_on, last_turn}
 use Rattle.live_fleet.specs.Resting as resting_as
-use Rattle.live_fleet.specs.Stepping.{HandsOut, StepsOn}
-use Rattle.live_fleet.specs.Taking.{Takes, TakesOne}
-use Rattle.live_fleet.specs.Telling.{TellsAll, TellsAt, TellsClients, TellsOne, TellsTo, TellsWhere, TellsWhole, numbers_of}
-use Rattle.live_fleet.specs.Turning.{SaysThat, Settles, Shows, ShowsAt, ShowsTo, ShowsWhere, Turns, is_ticked, place_line}
-use Rattle.live_fleet.specs.Went.{At, Both, Each, Went}
-use Rattle.live_fleet.proofs.Going.{went-none, went-then}
-use Rattle.live_fleet.proofs.Parts.{both-went, each-went}
+use Rattle.live_fleet.specs.Turning.{is_ticked}
+use Rattle.live_fleet.specs.Went.{At, Each, Went}
+use Rattle.live_fleet.proofs.Going.{went-then}
+use Rattle.live_fleet.proofs.Parts.{each-went}
 use Rattle.live_fleet.proofs.Steps.{steps-went}
-
--- ---- a fleet
-
-none_went : (a b : At) (acts : List Act) → acts ≡ [] → b ≡ a → Went a acts b
-none_went a b acts none same = subst (λ (l : List Act). Went a l b) (sym none) (subst (λ (x : At). Went a [] x) (sym same) (went-none a))
-
-takes-went : (count : ℕ) (a : At) (acts : List Act) (b : At) → Takes count a acts b → Went a acts b
-takes-went count a acts b takes = each-went (TakesOne a.fleet.talk.world.limits.lane) (λ n a acts b one. one.went) (range_with_len 0 count) a acts b takes
-
-tells-clients-went : (to : ℕ) (who : Clients) (a : At) (acts : List Act) (b : At) → TellsClients to who a acts b → Went a acts b
-tells-clients-went to who a acts b tells = each-went (λ (client : ℕ) (a : At) (acts : List Act) (b : At). (all : Bool) × TellsOne to client all a acts b) (λ n a acts b one. one.1.went) (numbers_of who) a acts b tells
-
-tells-whole-went : (to : ℕ) (who : Clients) (a : At) (acts : List Act) (b : At) → TellsWhole to who a acts b → Went a acts b
-tells-whole-went to who a acts b tells = each-went (λ (client : ℕ) (a : At) (acts : List Act) (b : At). TellsOne to client true a acts b) (λ n a acts b one. one.went) (numbers_of who) a acts b tells
-
-tells_where : (is : Bool) (to : ℕ) (who : Clients) (a : At) (acts : List Act) (b : At) → TellsWhere is to who a acts b → Went a acts b
-tells_where true to who a acts b tells = tells-clients-went to who a acts b tells
-tells_where false to who a acts b (none, same) = none_went a b acts none same
-
-tells_found : (o : Option Speaker) (to : ℕ) (a : At) (acts : List Act) (b : At) → MatchOption o ((acts ≡ []) × (b ≡ a)) (λ sp. TellsTo sp to a acts b) → Went a acts b
-tells_found None to a acts b (none, same) = none_went a b acts none same
-tells_found (Some sp) to a acts b tells = tells_where (is_open sp.rest) to sp.clients a acts b tells
-
-tells-at-went : (who : List Speaker) (to : ℕ) (a : At) (acts : List Act) (b : At) → TellsAt who to a acts b → Went a acts b
-tells-at-went who to a acts b tells = tells_found (slice_get who to) to a acts b tells
-
-tells-all-went : (who : List Speaker) (a : At) (acts : List Act) (b : At) → TellsAll who a acts b → Went a acts b
-tells-all-went who a acts b tells = each-went (TellsAt who) (tells-at-went who) (range_with_len 0 (length who)) a acts b tells
-
-settles-went : (who : List Speaker) (count : ℕ) (a : At) (acts : List Act) (b : At) → Settles who count a acts b → Went a acts b
-settles-went who count a acts b settles =
-    both-went (TellsAll who) (Both (Takes count) (TellsAll who)) (tells-all-went who) (both-went (Takes count) (TellsAll who) (takes-went count) (tells-all-went who)) a acts b settles
-
-turns-went : (who : List Speaker) (count : ℕ) (reply : Reply) (a : At) (acts : List Act) (b : At) → Turns who count reply a acts b → Went a acts b
-turns-went who count reply a acts b turns =
-    both-went (TellsAll who) (Both (Takes count) (Both (StepsOn Tick reply) (TellsAll who))) (tells-all-went who)
-    (both-went (Takes count) (Both (StepsOn Tick reply) (TellsAll who)) (takes-went count) (both-went (StepsOn Tick reply) (TellsAll who) (steps-went Tick reply) (tells-all-went who))) a acts b turns
-
-says-that-went : (is : Bool) (to : ℕ) (text : List ℕ) (a : At) (acts : List Act) (b : At) → SaysThat is to text a acts b → Went a acts b
-says-that-went true to text a acts b (fits, is, went) = went
-says-that-went false to text a acts b (full, none, same) = none_went a b acts none same
-
-shows_where : (is : Bool) (to : ℕ) (text : List ℕ) (a : At) (acts : List Act) (b : At) → ShowsWhere is text to a acts b → Went a acts b
-shows_where true to text a acts b (is, says) = says-that-went is to text a acts b says
-shows_where false to text a acts b (none, same) = none_went a b acts none same
-
-shows_found : (o : Option Speaker) (text : List ℕ) (to : ℕ) (a : At) (acts : List Act) (b : At) → MatchOption o ((acts ≡ []) × (b ≡ a)) (λ sp. ShowsTo text sp to a acts b) → Went a acts b
-shows_found None text to a acts b (none, same) = none_went a b acts none same
-shows_found (Some sp) text to a acts b shows = shows_where (sp.watching && is_open sp.rest) to text a acts b shows
-
-shows-went : (who : List Speaker) (a : At) (acts : List Act) (b : At) → Shows who a acts b → Went a acts b
-shows-went who a acts b shows = each-went (ShowsAt (place_line a.fleet.talk) who) (λ n x xs y one. shows_found (slice_get who n) (place_line a.fleet.talk) n x xs y one) (range_with_len 0 (length who)) a acts b shows
-
-hands-went : (is : Bool) (a : At) (acts : List Act) (b : At) → HandsOut a is acts b → Went a acts b
-hands-went true a acts b (is, went) = went
-hands-went false a acts b (last, none, same) = none_went a b acts none same
-
--- ---- a stage
+use Rattle.live_fleet.proofs.Fleets.{hands-went, none-went, says-that-went, settles-went, shows-went, tells-at-went, tells-clients-went, tells-whole-went, turns-went}
 
 -- it went on by these acts, over the same conversations and clients
 pub record Keeps (s : Stage) (acts : List Act) (t : Stage) : Type 0 where
@@ -103,15 +41,15 @@ pub record Keeps (s : Stage) (acts : List Act) (t : Stage) : Type 0 where
   pub speakers : length t.speakers ≡ length s.speakers
   pub notes : length t.notes ≡ length s.notes
   pub clients : t.clients ≡ s.clients
-  pub refused : t.refused ≡ s.refused
+  pub door : t.door ≡ s.door
 
 keeps_none : (s t : Stage) (acts : List Act) → acts ≡ [] → t ≡ s → Keeps s acts t
 keeps_none s t acts none same = record {
-  went = none_went s.at t.at acts none (ap (λ (x : Stage). x.at) same);
+  went = none-went s.at t.at acts none (ap (λ (x : Stage). x.at) same);
   speakers = ap (λ (x : Stage). length x.speakers) same;
   notes = ap (λ (x : Stage). length x.notes) same;
   clients = ap (λ (x : Stage). x.clients) same;
-  refused = ap (λ (x : Stage). x.refused) same;
+  door = ap (λ (x : Stage). x.door) same;
 }
 
 keeps_then : (s m t : Stage) (acts xs ys : List Act) → acts ≡ xs ++ ys → Keeps s xs m → Keeps m ys t → Keeps s acts t
@@ -120,7 +58,7 @@ keeps_then s m t acts xs ys is one two = record {
   speakers = two.speakers ∙ one.speakers;
   notes = two.notes ∙ one.notes;
   clients = two.clients ∙ one.clients;
-  refused = two.refused ∙ one.refused;
+  door = two.door ∙ one.door;
 }
 
 keeps_at : (s t : Stage) (acts : List Act) → Went s.at acts t.at → t ≡ with_at s t.at → Keeps s acts t
@@ -129,7 +67,7 @@ keeps_at s t acts went same = record {
   speakers = ap (λ (x : Stage). length x.speakers) same;
   notes = ap (λ (x : Stage). length x.notes) same;
   clients = ap (λ (x : Stage). x.clients) same;
-  refused = ap (λ (x : Stage). x.refused) same;
+  door = ap (λ (x : Stage). x.door) same;
 }
 
 keeps_rest : (s t : Stage) (acts : List Act) (k : ℕ) (sp : Speaker) → Went s.at acts t.at → t ≡ with_speaker (with_at s t.at) k sp → Keeps s acts t
@@ -138,7 +76,17 @@ keeps_rest s t acts k sp went same = record {
   speakers = ap (λ (x : Stage). length x.speakers) same ∙ length-set s.speakers k sp;
   notes = ap (λ (x : Stage). length x.notes) same;
   clients = ap (λ (x : Stage). x.clients) same;
-  refused = ap (λ (x : Stage). x.refused) same;
+  door = ap (λ (x : Stage). x.door) same;
+}
+
+-- a conversation is changed, and nothing is done
+keeps_set : (s t : Stage) (acts : List Act) (k : ℕ) (sp : Speaker) → acts ≡ [] → t ≡ with_speaker s k sp → Keeps s acts t
+keeps_set s t acts k sp none same = record {
+  went = none-went s.at t.at acts none (ap (λ (x : Stage). x.at) same);
+  speakers = ap (λ (x : Stage). length x.speakers) same ∙ length-set s.speakers k sp;
+  notes = ap (λ (x : Stage). length x.notes) same;
+  clients = ap (λ (x : Stage). x.clients) same;
+  door = ap (λ (x : Stage). x.door) same;
 }
 
 -- a stage on which a conversation was changed first
@@ -148,14 +96,14 @@ keeps_from s t acts k sp keeps = record {
   speakers = keeps.speakers ∙ length-set s.speakers k sp;
   notes = keeps.notes;
   clients = keeps.clients;
-  refused = keeps.refused;
+  door = keeps.door;
 }
 
 answers-keeps : (k : ℕ) (sp : Speaker) (text : List ℕ) (s : Stage) (acts : List Act) (t : Stage) → Answers k sp text s acts t → Keeps s acts t
 answers-keeps k sp text s acts t (at_once fits is went same) = keeps_rest s t acts k (resting sp rest.Nothing) went same
 answers-keeps k sp text s acts t (waits full none left waiting same) =
     let at : t.at ≡ s.at = ap (λ (x : Stage). x.at) same in
-    keeps_rest s t acts k (resting sp left) (none_went s.at t.at acts none at) (same ∙ ap (λ (a : At). with_speaker (with_at s a) k (resting sp left)) (sym at))
+    keeps_rest s t acts k (resting sp left) (none-went s.at t.at acts none at) (same ∙ ap (λ (a : At). with_speaker (with_at s a) k (resting sp left)) (sym at))
 
 settles-keeps : (s : Stage) (acts : List Act) (t : Stage) → SettlesAll s acts t → Keeps s acts t
 settles-keeps s acts t (settles, same) = keeps_at s t acts (settles-went s.speakers s.clients s.at acts t.at settles) same
@@ -172,7 +120,7 @@ posts-keeps k sp mark client order s acts t posts =
       speakers = ap (λ (x : Stage). length x.speakers) same;
       notes = ap (λ (x : Stage). length x.notes) same ∙ length-set s.notes client posts.new;
       clients = ap (λ (x : Stage). x.clients) same;
-      refused = ap (λ (x : Stage). x.refused) same;
+      door = ap (λ (x : Stage). x.door) same;
     } in
     keeps_then s posts.one t acts posts.first (posts.second ++ posts.third) posts.parts one
     (keeps_then posts.one posts.two t (posts.second ++ posts.third) posts.second posts.third refl (answers-keeps k sp _ posts.one posts.second posts.two posts.answers) (settles_if posts.posted posts.two posts.third t posts.settles))
@@ -192,7 +140,7 @@ grants-keeps k sp mark wanted.Look s acts t (text, look, answers) = answers-keep
 grants-keeps k sp mark wanted.Chapter s acts t chapter = chapter-keeps k sp mark s acts t chapter
 grants-keeps k sp mark (wanted.Tick times) s acts t (left, ticking, none, same) =
     let at : t.at ≡ s.at = ap (λ (x : Stage). x.at) same in
-    keeps_rest s t acts k (resting sp left) (none_went s.at t.at acts none at) (same ∙ ap (λ (a : At). with_speaker (with_at s a) k (resting sp left)) (sym at))
+    keeps_rest s t acts k (resting sp left) (none-went s.at t.at acts none at) (same ∙ ap (λ (a : At). with_speaker (with_at s a) k (resting sp left)) (sym at))
 grants-keeps k sp mark (wanted.Open client) s acts t (none, same) = keeps_none s t acts none same
 grants-keeps k sp mark wanted.Settle s acts t (none, same) = keeps_none s t acts none same
 
@@ -205,7 +153,7 @@ opens-keeps k sp mark client s acts t opens =
       speakers = ap (λ (x : Stage). length x.speakers) is ∙ (length-set opens.mid.speakers k (resting sp opens.left) ∙ settled.speakers);
       notes = ap (λ (x : Stage). length x.notes) is ∙ settled.notes;
       clients = ap (λ (x : Stage). x.clients) is ∙ settled.clients;
-      refused = ap (λ (x : Stage). x.refused) is ∙ settled.refused;
+      door = ap (λ (x : Stage). x.door) is ∙ settled.door;
     }
 
 ends-keeps : (s : Stage) (acts : List Act) (t : Stage) → Ends s acts t → Keeps s acts t
@@ -214,7 +162,7 @@ ends-keeps s acts t ends = record {
   speakers = ap (λ (x : Stage). length x.speakers) ends.same ∙ length-map s.speakers at_end;
   notes = ap (λ (x : Stage). length x.notes) ends.same;
   clients = ap (λ (x : Stage). x.clients) ends.same;
-  refused = ap (λ (x : Stage). x.refused) ends.same;
+  door = ap (λ (x : Stage). x.door) ends.same;
 }
 
 if_own : (own : Bool) (P : Type 0) (k : ℕ) (sp : Speaker) (mark : Option (List ℕ)) (client : ℕ) (s : Stage) (acts : List Act) (t : Stage) → (P → Keeps s acts t) → IfOwn own P k sp mark client s acts t → Keeps s acts t
@@ -288,7 +236,7 @@ keeps_after s m t acts k sp keeps same = record {
   speakers = ap (λ (x : Stage). length x.speakers) same ∙ (length-set m.speakers k sp ∙ keeps.speakers);
   notes = ap (λ (x : Stage). length x.notes) same ∙ keeps.notes;
   clients = ap (λ (x : Stage). x.clients) same ∙ keeps.clients;
-  refused = ap (λ (x : Stage). x.refused) same ∙ keeps.refused;
+  door = ap (λ (x : Stage). x.door) same ∙ keeps.door;
 }
 
 ends_answer : (is : Bool) (k : ℕ) (s m t : Stage) (acts : List Act) → Keeps s acts m → EndsAnswer is k m t → Keeps s acts t
@@ -298,11 +246,11 @@ ends_answer false k s m t acts keeps same = subst (λ (x : Stage). Keeps s acts 
 shows_turn : (is : Bool) (s : Stage) (acts : List Act) (t : Stage) → ShowsTurn is s acts t → Keeps s acts t
 shows_turn true s acts t (shows, same) = keeps_at s t acts (shows-went s.speakers s.at acts t.at shows) same
 shows_turn false s acts t (none, same) = record {
-  went = none_went s.at t.at acts none (ap (λ (x : Stage). x.at) same);
+  went = none-went s.at t.at acts none (ap (λ (x : Stage). x.at) same);
   speakers = ap (λ (x : Stage). length x.speakers) same;
   notes = ap (λ (x : Stage). length x.notes) same;
   clients = ap (λ (x : Stage). x.clients) same;
-  refused = ap (λ (x : Stage). x.refused) same;
+  door = ap (λ (x : Stage). x.door) same;
 }
 
 hands_due : (none : Bool) (s : Stage) (acts : List Act) (t : Stage) → HandsDue none s acts t → Keeps s acts t
@@ -313,6 +261,7 @@ pub does-keeps : (s : Stage) (event : Heard) (acts : List Act) (t : Stage) → D
 does-keeps s (heard.line from bytes) acts t hears = keeps_from s t acts from hears.speaker (obeys-keeps from hears.speaker hears.line _ (with_speaker s from hears.speaker) acts t hears.obeys)
 does-keeps s (heard.room to) acts t (tells, same) = keeps_at s t acts (tells-at-went s.speakers to s.at acts t.at tells) same
 does-keeps s (heard.rest from) acts t (mid, (sp, at, continues), ends) = ends_answer mid.has_ended from s mid t acts (continues-keeps sp.rest from sp s acts mid continues) ends
+does-keeps s (heard.last from) acts t (none, (sp, at, same)) = keeps_set s t acts from (resting sp (last_turn sp.rest)) none same
 does-keeps s heard.turn acts t turns =
     keeps_then s turns.mid t acts turns.first turns.second turns.parts (keeps_at s turns.mid turns.first (turns-went s.speakers s.clients turns.reply s.at turns.first turns.mid.at turns.turns) turns.same)
     (shows_turn (is_ticked turns.reply) turns.mid turns.second t turns.shows)
@@ -321,6 +270,6 @@ does-keeps s (heard.kept chapter) acts t notes =
     each_keeps (KeptAt chapter) (λ n s acts t one. kept-keeps one.0.rest chapter n one.0 s acts t one.2) (range_with_len 0 (length s.speakers)) s acts t notes
 does-keeps s heard.end acts t ends = ends-keeps s acts t ends
 
-pub plays-keeps : (s : Stage) (events : List Heard) (acts : List Act) (t : Stage) → Plays s events acts t → Keeps s acts t
-plays-keeps s [] acts t (none, same) = keeps_none s t acts none same
-plays-keeps s (event ∷ events) acts t (mid, first, more, does, plays, parts) = keeps_then s mid t acts first more parts (does-keeps s event first mid does) (plays-keeps mid events more t plays)
+pub unread-keeps : (s : Stage) (events : List Heard) (acts : List Act) (t : Stage) → PlaysUnread s events acts t → Keeps s acts t
+unread-keeps s [] acts t (none, same) = keeps_none s t acts none same
+unread-keeps s (event ∷ events) acts t (mid, first, more, does, plays, parts) = keeps_then s mid t acts first more parts (does-keeps s event first mid does) (unread-keeps mid events more t plays)

@@ -6,6 +6,7 @@ pub mod Rolling
 pub mod Steps
 pub mod Tells
 pub mod Shows
+pub mod Fleets
 pub mod Keeps
 pub mod Answered
 pub mod Posted
@@ -13,7 +14,12 @@ pub mod Ended
 pub mod Rested
 pub mod Laws
 pub mod Whole
+pub mod Doors
+pub mod ToldRight
 pub mod Whose
+pub mod Plays
+pub mod Shown
+pub mod Quiet
 pub mod Once
+pub mod Lists
 pub mod Heard
-mod Looks

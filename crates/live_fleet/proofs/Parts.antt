@@ -1,5 +1,5 @@
 -- Parts one after another.
-use Rattle.std.proofs.Common.{◌≡◌, ◌∙◌, ℕ, ◌+◌, ◌-◌, ◌≤◌, ◌<◌, zero, suc, List, [], ◌∷◌, ◌++◌, refl, sym, ap, subst, arith, append_assoc, append-nil}
+use Rattle.std.proofs.Common.{◌≡◌, ◌∙◌, ℕ, ◌+◌, ◌-◌, ◌≤◌, ◌<◌, zero, suc, List, [], ◌∷◌, ◌++◌, length, refl, sym, ap, subst, arith, append_assoc, append-nil}
 use Rattle.std.specs.List.{AllByRecursion, range_with_len}
 use Rattle.live_fleet.specs.Act.{Act}
 use Rattle.live_fleet.specs.Went.{At, Both, Each, Went}
@@ -8,6 +8,10 @@ use Rattle.live_fleet.proofs.Going.{went-none, went-then}
 pub all-then : (P : Act → Type 0) (xs ys : List Act) → AllByRecursion P xs → AllByRecursion P ys → AllByRecursion P (xs ++ ys)
 all-then P [] ys none all = all
 all-then P (x ∷ xs) ys (first, rest) all = (first, all-then P xs ys rest all)
+
+pub nothing-in : {X : Type 0} (xs : List X) → length xs ≡ 0 → xs ≡ []
+nothing-in [] none = refl
+nothing-in (x ∷ xs) none = absurd (omega (arith, none))
 
 -- the numbers from x on, where one is left or none
 pub range-next : (x b : ℕ) → x < b → range_with_len x (b - x) ≡ x ∷ range_with_len (x + 1) (b - (x + 1))

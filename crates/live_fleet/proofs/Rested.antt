@@ -17,7 +17,7 @@ use Rattle.live_fleet.specs.Ending.{at_end}
 use Rattle.live_fleet.specs.Open.{is_ending, turns_left}
 use Rattle.live_fleet.specs.Out.{Out}
 use Rattle.live_fleet.specs.Party.{Stage, resting, with_at, with_rest, with_speaker}
-use Rattle.live_fleet.specs.Resting.{Continues, EndsAnswer, GoesOn, GoesOnce, KeptAt, KeptFor, KeptIn, SaysOn, TellsRest, TicksOnce, TicksThen, all, goes_on, line_of}
+use Rattle.live_fleet.specs.Resting.{Continues, EndsAnswer, GoesOn, GoesOnce, Hastens, KeptAt, KeptFor, KeptIn, SaysOn, TellsRest, TicksOnce, TicksThen, all, goes_on, last_turn, line_of}
 use Rattle.live_fleet.specs.Telling.{TellsWhole}
 use Rattle.live_fleet.specs.Turning.{SaysOrNot, SaysThat, Turns, is_ticked}
 use Rattle.live_fleet.specs.Went.{At}
@@ -224,3 +224,7 @@ goes-then-ends k s mid t read new less at ends ended is (acts, once) =
 
 pub goes-on-yet : (k : ℕ) (s mid : Stage) → mid.has_ended ≡ false → ((acts : List Act) × GoesOnce k s acts mid) → (acts : List Act) × GoesOn k s acts mid
 goes-on-yet k s mid other (acts, once) = (acts, (mid, once, ends_not mid.has_ended k mid other))
+
+-- of the turns no more than one is to be made
+pub hastens-of : (k : ℕ) (s t : Stage) (read new : Speaker) → k < length s.speakers → read ≡ get_or s.speakers k read → new ≡ resting read (last_turn read.rest) → t ≡ with_speaker s k new → Hastens k s t
+hastens-of k s t read new less at is same = (read, slice_get_read s.speakers (length s.speakers) k read refl less at, same ∙ ap (with_speaker s k) is)

@@ -13,7 +13,7 @@ use Rattle.fleet_core.specs.declared.faults.TakeFault.TheVariants as take_fault
 use Rattle.fleet_text.specs.Output.{is_limit_met}
 use Rattle.fleet_world.specs.declared.reply.Reply.{Reply}
 use Rattle.fleet_world.specs.declared.reply.Reply.TheVariants.{Took, LaneEmpty, TakeRefused, NoClient}
-use Rattle.fleet_world.specs.Talk.{Talk, TalkStep, next_talk}
+use Rattle.fleet_world.specs.Talk.{Talk, TalkStep, next_talk, waiting}
 use Rattle.fleet_talk.specs.Acts.{NeedsRoom}
 use Rattle.fleet_talk.specs.Chapters.{ChapterView, IsSound, chapter_in, chapter_shown}
 use Rattle.fleet_talk.specs.Fleet.{Fleet}
@@ -21,10 +21,10 @@ use Rattle.live_fleet.proofs.Rolling.{needed}
 use Rattle.live_fleet.specs.Act.{Act, Runs, did, full, handed}
 use Rattle.live_fleet.specs.Out.{Out}
 use Rattle.live_fleet.specs.Stepping.{HandsOut, HandsOver, IsLast, StepsOn, here, next, wants_room}
-use Rattle.live_fleet.specs.Taking.{AllTaken, IsTaking, TakesOne, is_took}
+use Rattle.live_fleet.specs.Taking.{AllTaken, HasNoOrder, IsTaking, TakesOne, is_took}
 use Rattle.live_fleet.specs.Went.{At, Went}
 use Rattle.live_fleet.proofs.Going.{went-did, went-full, went-handed, went-none, went-then}
-use Rattle.live_fleet.proofs.Parts.{all-then}
+use Rattle.live_fleet.proofs.Parts.{all-then, nothing-in}
 
 at_with : Talk Global → Bool → List (List ℕ) → List (ChapterView Global) → At
 at_with talk met texts chapters = record { fleet = record { talk = talk; met = met }; out = record { texts = texts; chapters = chapters } }
@@ -106,6 +106,14 @@ only_take client reply a acts b (next is went) = subst (λ (l : List Act). AllBy
 one_act : (e : Event) (reply : Reply) (a : At) (acts : List Act) (b : At) → StepsOn e reply a acts b → 1 ≤ length acts
 one_act e reply a acts b (here is last went) = subst (λ (l : List Act). 1 ≤ length l) (sym is) (omega arith)
 one_act e reply a acts b (next is went) = subst (λ (l : List Act). 1 ≤ length l) (sym is) (omega arith)
+
+-- of a client of whom no order waits none is judged
+pub takes-none : (most client : ℕ) (a : At) → HasNoOrder a.fleet.talk client → (acts : List Act) × TakesOne most client a acts a
+takes-none most client a none = ([], record { went = went-none a; only = tt; whole = inl (taken none) })
+  where
+    taken : HasNoOrder a.fleet.talk client → AllTaken a.fleet.talk client
+    taken (inl past) = inl past
+    taken (inr lane) = inr (inl (nothing-in (waiting a.fleet.talk client).lane lane))
 
 -- some orders of a client were judged, each by an act
 pub record Taking (client count : ℕ) (a : At) (acts : List Act) (b : At) : Type 0 where

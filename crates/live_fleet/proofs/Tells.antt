@@ -15,12 +15,12 @@ use Rattle.fleet_world.specs.declared.reply.Reply.TheVariants.{Collected, Gave, 
 use Rattle.fleet_world.specs.Talk.{Talk, TalkStep, Waiting, mailbox, none_waiting, waiting, with_notice}
 use Rattle.live_fleet.specs.Act.{Act, did, told}
 use Rattle.live_fleet.specs.Out.{Out, Fits, IsFull, text_at, told_to}
-use Rattle.live_fleet.specs.Telling.{AllTold, FindsNothing, IsTelling, TellsClients, TellsNext, TellsOne, TellsWhere, collected_in}
+use Rattle.live_fleet.specs.Telling.{AllTold, FindsNothing, HasNoNotice, IsTelling, TellsClients, TellsNext, TellsOne, TellsWhere, collected_in}
 use Rattle.live_fleet.specs.declared.speaker.Clients.{Clients}
 use Rattle.live_fleet.specs.declared.telling.Told.TheVariants as came
 use Rattle.live_fleet.specs.Went.{At, Went}
 use Rattle.live_fleet.proofs.Going.{went-did, went-none, went-then, went-told}
-use Rattle.live_fleet.proofs.Parts.{all-then}
+use Rattle.live_fleet.proofs.Parts.{all-then, nothing-in}
 use Rattle.live_fleet.proofs.Steps.{at-same}
 
 -- ---- replies
@@ -80,6 +80,13 @@ nothing s m c _ count st none = absurd st
 
 pub tells-full : (to client : ℕ) (a : At) → IsFull (text_at a.out to) → (acts : List Act) × TellsNext to client came.Full a acts a
 tells-full to client a full = ([], record { went = went-none a; only = tt; comes = full })
+
+pub tells-none : (to client : ℕ) (a : At) → HasNoNotice a.fleet.talk client → (acts : List Act) × TellsNext to client came.All a acts a
+tells-none to client a none = ([], record { went = went-none a; only = tt; comes = comes none })
+  where
+    comes : HasNoNotice a.fleet.talk client → (clients a.fleet.talk.world.history ≤ client) ⊎ FindsNothing a.fleet.talk client
+    comes (inl past) = inl past
+    comes (inr (outlet, box)) = inr (nothing-in (waiting a.fleet.talk client).outlet outlet, inl (nothing-in (mailbox a.fleet.talk client) box))
 
 pub tells-all : (to client : ℕ) (a m b : At) (given reply : Reply) → length a.fleet.talk.clients ≡ clients a.fleet.talk.world.history → TalkStep a.fleet.talk (Give client) given m.fleet.talk → m.fleet.met ≡ a.fleet.met → m.out ≡ a.out
     → TalkStep m.fleet.talk (Collect client) reply b.fleet.talk → b.fleet.met ≡ m.fleet.met → b.out ≡ m.out → collected_in reply ≡ None → (acts : List Act) × TellsNext to client came.All a acts b

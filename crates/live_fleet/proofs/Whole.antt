@@ -56,8 +56,8 @@ runs-clients s (told to client notice ∷ acts) t (m, step, runs) = runs-clients
 runs-clients s (said to text ∷ acts) t (m, same, runs) = runs-clients m acts t runs ∙ same_lists s m same
 runs-clients s (grew client extra ∷ acts) t (m, same, runs) = runs-clients m acts t runs ∙ ap (λ (x : Talk Global). length x.clients) same
 
-whole_kept : (s t : Stage) (event : Heard) (acts : List Act) → IsWhole s → clients s.at.fleet.talk.world.history ≡ length s.at.fleet.talk.clients → clients t.at.fleet.talk.world.history ≡ length t.at.fleet.talk.clients → Does s event acts t → IsWhole t
-whole_kept s t event acts whole before after does =
+pub whole-kept : (s t : Stage) (event : Heard) (acts : List Act) → IsWhole s → clients s.at.fleet.talk.world.history ≡ length s.at.fleet.talk.clients → clients t.at.fleet.talk.world.history ≡ length t.at.fleet.talk.clients → Does s event acts t → IsWhole t
+whole-kept s t event acts whole before after does =
     let keeps = does-keeps s event acts t does in
     record {
       texts = keeps.went.count ∙ (whole.texts ∙ sym keeps.speakers);
@@ -66,13 +66,16 @@ whole_kept s t event acts whole before after does =
     }
 
 -- what was done at an event is a run, and the stage is whole again
+pub does-so : (s t : Stage) (event cue : Heard) → cue ≡ event → ((acts : List Act) × Does s event acts t) → (acts : List Act) × Does s cue acts t × Went s.at acts t.at
+does-so s t event cue is (acts, does) = (acts, subst (λ (e : Heard). Does s e acts t) (sym is) does, (does-keeps s event acts t does).went)
+
 pub does-go : {T E : Type 0} (r : Result T E) (s t : Stage) (event cue : Heard) → cue ≡ event → OnOk r ((acts : List Act) × Does s event acts t) → OnOk r ((acts : List Act) × Does s cue acts t × Went s.at acts t.at)
-does-go (Ok v) s t event cue is (acts, does) = (acts, subst (λ (e : Heard). Does s e acts t) (sym is) does, (does-keeps s event acts t does).went)
+does-go (Ok v) s t event cue is so = does-so s t event cue is so
 does-go (Err e) s t event cue is does = tt
 
 pub stays-whole : {T E : Type 0} (r : Result T E) (s t : Stage) (event : Heard) → IsWhole s → clients s.at.fleet.talk.world.history ≡ length s.at.fleet.talk.clients → clients t.at.fleet.talk.world.history ≡ length t.at.fleet.talk.clients
     → OnOk r ((acts : List Act) × Does s event acts t) → OnOk r (IsWhole t)
-stays-whole (Ok v) s t event whole before after (acts, does) = whole_kept s t event acts whole before after does
+stays-whole (Ok v) s t event whole before after (acts, does) = whole-kept s t event acts whole before after does
 stays-whole (Err e) s t event whole before after does = tt
 
 -- ---- a conversation that is there

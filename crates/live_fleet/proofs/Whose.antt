@@ -1,186 +1,37 @@
--- Notices are told to conversations that speak for their clients.
-use Rattle.std.proofs.Common.{◌≡◌, ◌∙◌, ℕ, ◌+◌, ◌-◌, ◌≤◌, ◌<◌, zero, suc, Bool, true, false, ◌&&◌, List, [], ◌∷◌, ◌++◌, length, map, Option, Some, None, Result, Ok, Err, Vec, refl, sym, ap, subst, arith}
-use Rattle.std.specs.Prelude.{MatchBool, MatchOption, ◌==◌, if◌then◌else◌, slice_get, slice_set}
-use Rattle.std.specs.List.{AllByRecursion, range_with_len}
+-- Conversations speak for the same clients all the time, and are told the notices of these.
+use Rattle.std.proofs.Common.{◌≡◌, ◌∙◌, ℕ, ◌+◌, ◌-◌, zero, suc, Bool, true, false, List, [], ◌∷◌, ◌++◌, length, map, Option, Some, None, Result, Ok, Err, Vec, refl, sym, ap, subst}
+use Rattle.std.specs.Prelude.{MatchBool, ◌==◌, if◌then◌else◌, slice_get, slice_set}
+use Rattle.std.specs.List.{range_with_len}
 use Rattle.std.specs.declared.alloc.Global.{Global}
 use Rattle.std.proofs.lemmas.List.{map-set}
-use Rattle.fleet_book.specs.declared.event.Event.TheVariants.{Post, Take, Tick, Give, Collect, Shut}
 use Rattle.fleet_book.specs.declared.order.Order.{Order}
 use Rattle.fleet_lanes.specs.declared.fault.PostFault.{PostFault}
 use Rattle.fleet_talk.specs.Ask.{Line}
 use Rattle.fleet_world.specs.declared.reply.Reply.{Reply}
-use Rattle.fleet_world.specs.declared.reply.Reply.TheVariants.{Posted, LaneFull, Collected, NothingThere, NoClient}
 use Rattle.live_parts.specs.declared.demand.Demand.{Demand}
 use Rattle.live_parts.specs.declared.demand.Demand.TheVariants as demand
 use Rattle.live_parts.specs.declared.demand.Wanted.{Wanted}
 use Rattle.live_parts.specs.declared.demand.Wanted.TheVariants as wanted
-use Rattle.fleet_world.specs.Talk.{Talk}
-use Rattle.live_fleet.specs.declared.notes.Note.{Note}
 use Rattle.live_fleet.specs.declared.rest.Rest.{Rest}
 use Rattle.live_fleet.specs.declared.rest.Rest.TheVariants as rest
 use Rattle.live_fleet.specs.declared.speaker.Clients.{Clients}
 use Rattle.live_fleet.specs.declared.speaker.Speaker.{Speaker}
-use Rattle.live_fleet.specs.Act.{Act, did, full, handed, said, grew}
-use Rattle.live_fleet.specs.Act as act
+use Rattle.live_fleet.specs.Act.{Act}
 use Rattle.live_fleet.specs.Answering.{Answers, at_once, waits}
 use Rattle.live_fleet.specs.Asking.{Grants, ShutsOne, TurnsChapter}
 use Rattle.live_fleet.specs.Asking as asking
-use Rattle.live_fleet.specs.Does.{Does, HandsDue, Plays, ShowsTurn}
+use Rattle.live_fleet.specs.Does.{Does, HandsDue, ShowsTurn}
 use Rattle.live_fleet.specs.Ending.{Ends, IsClosing, TakesLeft, at_end}
 use Rattle.live_fleet.specs.Hearing.{IfOwn, Obeys, Opens, is_own}
-use Rattle.live_fleet.specs.Law.{IsToldRight, SpeaksFor, clients_in}
-use Rattle.live_fleet.specs.Open.{is_open}
+use Rattle.live_fleet.specs.Law.{clients_in}
 use Rattle.live_fleet.specs.Party.{Heard, Stage, resting, with_at, with_rest, with_speaker}
 use Rattle.live_fleet.specs.Party as heard
-use Rattle.live_fleet.specs.Posting.{IsPosted, Posts, SettlesAll, SettlesIf}
-use Rattle.live_fleet.specs.Posting as posting
-use Rattle.live_fleet.specs.Resting.{Continues, EndsAnswer, KeptAt, KeptFor, TellsRest, TicksOnce, TicksThen, goes_on}
+use Rattle.live_fleet.specs.Posting.{Posts, SettlesAll, SettlesIf}
+use Rattle.live_fleet.specs.Resting.{Continues, EndsAnswer, KeptAt, KeptFor, TellsRest, TicksOnce, TicksThen, goes_on, last_turn}
 use Rattle.live_fleet.specs.Resting as resting_as
-use Rattle.live_fleet.specs.Stepping.{HandsOut, StepsOn, here, next}
-use Rattle.live_fleet.specs.Taking.{IsTaking, Takes, TakesOne}
-use Rattle.live_fleet.specs.Telling.{IsTelling, TellsAll, TellsAt, TellsClients, TellsOne, TellsTo, TellsWhere, TellsWhole, numbers_of}
-use Rattle.live_fleet.specs.Turning.{SaysThat, Settles, Shows, ShowsAt, ShowsWhere, Turns, is_ticked, place_line}
-use Rattle.live_fleet.specs.Went.{At, Both, Each}
-use Rattle.live_fleet.proofs.Parts.{all-then}
-
-abbrev Right : List Clients → List Act → Type 0
-Right whose acts = AllByRecursion (IsToldRight whose) acts
-
-right_none : (whose : List Clients) (acts : List Act) → acts ≡ [] → Right whose acts
-right_none whose acts none = subst (λ (l : List Act). Right whose l) (sym none) tt
-
-right_then : (whose : List Clients) (acts xs ys : List Act) → acts ≡ xs ++ ys → Right whose xs → Right whose ys → Right whose acts
-right_then whose acts xs ys is first second = subst (λ (l : List Act). Right whose l) (sym is) (all-then (IsToldRight whose) xs ys first second)
-
-right_if : (whose : List Clients) (P : Act → Type 0) → ((x : Act) → P x → IsToldRight whose x) → (acts : List Act) → AllByRecursion P acts → Right whose acts
-right_if whose P each [] all = tt
-right_if whose P each (x ∷ acts) (first, all) = (each x first, right_if whose P each acts all)
-
-right_both : (whose : List Clients) (P Q : At → List Act → At → Type 0) → ((a : At) (acts : List Act) (b : At) → P a acts b → Right whose acts) → ((a : At) (acts : List Act) (b : At) → Q a acts b → Right whose acts)
-    → (a : At) (acts : List Act) (b : At) → Both P Q a acts b → Right whose acts
-right_both whose P Q one two a acts b both = right_then whose acts both.first both.rest both.parts (one a both.first both.mid both.before) (two both.mid both.rest b both.after)
-
--- a part for each of these numbers
-right_range : (whose : List Clients) (P : ℕ → At → List Act → At → Type 0) (low len : ℕ) → ((n : ℕ) → low ≤ n → n < low + len → (a : At) (acts : List Act) (b : At) → P n a acts b → Right whose acts)
-    → (a : At) (acts : List Act) (b : At) → Each P (range_with_len low len) a acts b → Right whose acts
-right_range whose P low zero one a acts b (none, same) = right_none whose acts none
-right_range whose P low (suc len) one a acts b both =
-    right_then whose acts both.first both.rest both.parts (one low (omega arith) (omega arith) a both.first both.mid both.before)
-    (right_range whose P (low + 1) len (λ n above below. one n (omega (arith, above)) (omega (arith, below))) both.mid both.rest b both.after)
-
--- ---- acts of one kind
-
-telling_right : (whose : List Clients) (to client : ℕ) → SpeaksFor whose to client → (x : Act) → IsTelling to client x → IsToldRight whose x
-telling_right whose to client speaks (did (Give c) reply) is = tt
-telling_right whose to client speaks (did (Collect c) NothingThere) is = tt
-telling_right whose to client speaks (did (Collect c) NoClient) is = tt
-telling_right whose to client speaks (act.told k c notice) (same_to, same) = subst (λ (n : ℕ). SpeaksFor whose n c) (sym same_to) (subst (λ (n : ℕ). SpeaksFor whose to n) (sym same) speaks)
-telling_right whose to client speaks _ is = absurd is
-
-taking_right : (whose : List Clients) (client : ℕ) (x : Act) → IsTaking client x → IsToldRight whose x
-taking_right whose client (did (Take c) reply) is = tt
-taking_right whose client (full e) is = tt
-taking_right whose client (handed c) is = tt
-taking_right whose client _ is = absurd is
-
-closing_right : (whose : List Clients) (client : ℕ) (x : Act) → IsClosing client x → IsToldRight whose x
-closing_right whose client (did (Take c) reply) is = tt
-closing_right whose client (full e) is = tt
-closing_right whose client (handed c) is = tt
-closing_right whose client (grew c extra) is = tt
-closing_right whose client _ is = absurd is
-
-tick_right : (whose : List Clients) (reply : Reply) (a : At) (acts : List Act) (b : At) → StepsOn Tick reply a acts b → Right whose acts
-tick_right whose reply a acts b (here is last went) = subst (λ (l : List Act). Right whose l) (sym is) (tt, tt)
-tick_right whose reply a acts b (next is went) = subst (λ (l : List Act). Right whose l) (sym is) (tt, (tt, (tt, tt)))
-
-shut_right : (whose : List Clients) (robot : ℕ) (reply : Reply) (a : At) (acts : List Act) (b : At) → StepsOn (Shut robot) reply a acts b → Right whose acts
-shut_right whose robot reply a acts b (here is last went) = subst (λ (l : List Act). Right whose l) (sym is) (tt, tt)
-shut_right whose robot reply a acts b (next is went) = subst (λ (l : List Act). Right whose l) (sym is) (tt, (tt, (tt, tt)))
-
-hands_right : (whose : List Clients) (is : Bool) (a : At) (acts : List Act) (b : At) → HandsOut a is acts b → Right whose acts
-hands_right whose true a acts b (is, went) = subst (λ (l : List Act). Right whose l) (sym is) (tt, tt)
-hands_right whose false a acts b (last, none, same) = right_none whose acts none
-
-says_right : (whose : List Clients) (is : Bool) (to : ℕ) (text : List ℕ) (a : At) (acts : List Act) (b : At) → SaysThat is to text a acts b → Right whose acts
-says_right whose true to text a acts b (fits, is, went) = subst (λ (l : List Act). Right whose l) (sym is) (tt, tt)
-says_right whose false to text a acts b (crowded, none, same) = right_none whose acts none
-
-posted_right : (whose : List Clients) (client : ℕ) (order : Order) (posted : Result ℕ PostFault) (note new : Note) (s : Talk Global) (acts : List Act) (t : Talk Global) → IsPosted client order posted note new s acts t → Right whose acts
-posted_right whose client order posted note new s acts t (posting.closed is fault none same stays) = right_none whose acts none
-posted_right whose client order posted note new s acts t (posting.spent is other few fault none same stays) = right_none whose acts none
-posted_right whose client order posted note new s acts t (posting.full is many fault one step stays) = subst (λ (l : List Act). Right whose l) (sym one) (tt, tt)
-posted_right whose client order posted note new s acts t (posting.ok is many n number one step stays) = subst (λ (l : List Act). Right whose l) (sym one) (tt, tt)
-
--- ---- notices of a conversation's clients
-
-there_in : (who : List Speaker) (to : ℕ) (sp : Speaker) → slice_get who to ≡ Some sp → slice_get (clients_in who) to ≡ Some sp.clients
-there_in [] to sp at = none_there sp at
-  where
-    none_there : {P : Type 0} (x : Speaker) → None ≡ Some x → P
-    none_there x bad = cc
-there_in (x ∷ who) zero sp at = ap clients_of at
-  where
-    clients_of : Option Speaker → Option Clients
-    clients_of None = None
-    clients_of (Some y) = Some y.clients
-there_in (x ∷ who) (suc to) sp at = there_in who to sp at
-
-speaks_in : (whose : List Clients) (to n : ℕ) (c : Clients) → slice_get whose to ≡ Some c → c.first ≤ n → n < c.end → SpeaksFor whose to n
-speaks_in whose to n c at above below = subst (λ (o : Option Clients). MatchOption o ⊥ (λ x. (x.first ≤ n) × (n < x.end))) (sym at) (above, below)
-
-tells_clients_right : (whose : List Clients) (to : ℕ) (c : Clients) → slice_get whose to ≡ Some c → (a : At) (acts : List Act) (b : At) → TellsClients to c a acts b → Right whose acts
-tells_clients_right whose to c at a acts b tells =
-    right_range whose (λ (client : ℕ) (a : At) (acts : List Act) (b : At). (all : Bool) × TellsOne to client all a acts b) c.first (c.end - c.first)
-    (λ n above below a acts b one. right_if whose (IsTelling to n) (telling_right whose to n (speaks_in whose to n c at above (omega (arith, above, below)))) acts one.1.only) a acts b tells
-
-tells_whole_right : (whose : List Clients) (to : ℕ) (c : Clients) → slice_get whose to ≡ Some c → (a : At) (acts : List Act) (b : At) → TellsWhole to c a acts b → Right whose acts
-tells_whole_right whose to c at a acts b tells =
-    right_range whose (λ (client : ℕ) (a : At) (acts : List Act) (b : At). TellsOne to client true a acts b) c.first (c.end - c.first)
-    (λ n above below a acts b one. right_if whose (IsTelling to n) (telling_right whose to n (speaks_in whose to n c at above (omega (arith, above, below)))) acts one.only) a acts b tells
-
-tells_where_right : (whose : List Clients) (is : Bool) (to : ℕ) (c : Clients) → slice_get whose to ≡ Some c → (a : At) (acts : List Act) (b : At) → TellsWhere is to c a acts b → Right whose acts
-tells_where_right whose true to c at a acts b tells = tells_clients_right whose to c at a acts b tells
-tells_where_right whose false to c at a acts b (none, same) = right_none whose acts none
-
-tells_found_right : (who : List Speaker) (to : ℕ) (o : Option Speaker) → slice_get who to ≡ o → (a : At) (acts : List Act) (b : At) → MatchOption o ((acts ≡ []) × (b ≡ a)) (λ sp. TellsTo sp to a acts b) → Right (clients_in who) acts
-tells_found_right who to None at a acts b (none, same) = right_none (clients_in who) acts none
-tells_found_right who to (Some sp) at a acts b tells = tells_where_right (clients_in who) (is_open sp.rest) to sp.clients (there_in who to sp at) a acts b tells
-
-tells_at_right : (who : List Speaker) (to : ℕ) (a : At) (acts : List Act) (b : At) → TellsAt who to a acts b → Right (clients_in who) acts
-tells_at_right who to a acts b tells = tells_found_right who to (slice_get who to) refl a acts b tells
-
-tells_all_right : (who : List Speaker) (a : At) (acts : List Act) (b : At) → TellsAll who a acts b → Right (clients_in who) acts
-tells_all_right who a acts b tells = right_range (clients_in who) (TellsAt who) 0 (length who) (λ n above below a acts b one. tells_at_right who n a acts b one) a acts b tells
-
-takes_right : (whose : List Clients) (count : ℕ) (a : At) (acts : List Act) (b : At) → Takes count a acts b → Right whose acts
-takes_right whose count a acts b takes =
-    right_range whose (TakesOne a.fleet.talk.world.limits.lane) 0 count (λ n above below a acts b one. right_if whose (IsTaking n) (taking_right whose n) acts one.only) a acts b takes
-
-settles_right : (who : List Speaker) (count : ℕ) (a : At) (acts : List Act) (b : At) → Settles who count a acts b → Right (clients_in who) acts
-settles_right who count a acts b settles =
-    right_both (clients_in who) (TellsAll who) (Both (Takes count) (TellsAll who)) (tells_all_right who) (right_both (clients_in who) (Takes count) (TellsAll who) (takes_right (clients_in who) count) (tells_all_right who)) a acts b settles
-
-turns_right : (who : List Speaker) (count : ℕ) (reply : Reply) (a : At) (acts : List Act) (b : At) → Turns who count reply a acts b → Right (clients_in who) acts
-turns_right who count reply a acts b turns =
-    right_both (clients_in who) (TellsAll who) (Both (Takes count) (Both (StepsOn Tick reply) (TellsAll who))) (tells_all_right who)
-    (right_both (clients_in who) (Takes count) (Both (StepsOn Tick reply) (TellsAll who)) (takes_right (clients_in who) count)
-    (right_both (clients_in who) (StepsOn Tick reply) (TellsAll who) (tick_right (clients_in who) reply) (tells_all_right who))) a acts b turns
-
-shows_where_right : (whose : List Clients) (is : Bool) (text : List ℕ) (to : ℕ) (a : At) (acts : List Act) (b : At) → ShowsWhere is text to a acts b → Right whose acts
-shows_where_right whose true text to a acts b (is, says) = says_right whose is to text a acts b says
-shows_where_right whose false text to a acts b (none, same) = right_none whose acts none
-
-shows_found_right : (whose : List Clients) (o : Option Speaker) (text : List ℕ) (to : ℕ) (a : At) (acts : List Act) (b : At)
-    → MatchOption o ((acts ≡ []) × (b ≡ a)) (λ sp. ShowsWhere (sp.watching && is_open sp.rest) text to a acts b) → Right whose acts
-shows_found_right whose None text to a acts b (none, same) = right_none whose acts none
-shows_found_right whose (Some sp) text to a acts b shows = shows_where_right whose (sp.watching && is_open sp.rest) text to a acts b shows
-
-shows_right : (whose : List Clients) (who : List Speaker) (a : At) (acts : List Act) (b : At) → Shows who a acts b → Right whose acts
-shows_right whose who a acts b shows =
-    right_range whose (ShowsAt (place_line a.fleet.talk) who) 0 (length who) (λ n above below x xs y one. shows_found_right whose (slice_get who n) (place_line a.fleet.talk) n x xs y one) a acts b shows
-
--- ---- a stage
+use Rattle.live_fleet.specs.Turning.{is_ticked}
+use Rattle.live_fleet.specs.Went.{Each}
+use Rattle.live_fleet.proofs.ToldRight.{closing-right, hands-right, posted-right, right-if, right-none, right-range, right-then, says-right, settles-right, shows-right, shut-right, tells-at-right, tells-clients-right, tells-whole-right, there-in, turns-right, Right}
 
 -- all is told right, and conversations speak for these clients yet
 pub record Rights (whose : List Clients) (acts : List Act) (t : Stage) : Type 0 where
@@ -207,16 +58,20 @@ ended_same [] = refl
 ended_same (sp ∷ who) = ap (λ (l : List Clients). sp.clients ∷ l) (ended_same who)
 
 rights_none : (whose : List Clients) (s t : Stage) (acts : List Act) → clients_in s.speakers ≡ whose → acts ≡ [] → t ≡ s → Rights whose acts t
-rights_none whose s t acts at none same = record { right = right_none whose acts none; same = ap (λ (x : Stage). clients_in x.speakers) same ∙ at }
+rights_none whose s t acts at none same = record { right = right-none whose acts none; same = ap (λ (x : Stage). clients_in x.speakers) same ∙ at }
 
-rights_then : (whose : List Clients) (m t : Stage) (acts xs ys : List Act) → acts ≡ xs ++ ys → Rights whose xs m → (clients_in m.speakers ≡ whose → Rights whose ys t) → Rights whose acts t
-rights_then whose m t acts xs ys is one two = let last = two one.same in record { right = right_then whose acts xs ys is one.right last.right; same = last.same }
+pub rights-then : (whose : List Clients) (m t : Stage) (acts xs ys : List Act) → acts ≡ xs ++ ys → Rights whose xs m → (clients_in m.speakers ≡ whose → Rights whose ys t) → Rights whose acts t
+rights-then whose m t acts xs ys is one two = let last = two one.same in record { right = right-then whose acts xs ys is one.right last.right; same = last.same }
 
 rights_at : (whose : List Clients) (s t : Stage) (acts : List Act) → clients_in s.speakers ≡ whose → Right whose acts → t ≡ with_at s t.at → Rights whose acts t
 rights_at whose s t acts at right same = record { right = right; same = ap (λ (x : Stage). clients_in x.speakers) same ∙ at }
 
 rights_rest : (whose : List Clients) (s t : Stage) (acts : List Act) (k : ℕ) (sp : Speaker) → clients_in s.speakers ≡ whose → slice_get whose k ≡ Some sp.clients → Right whose acts → t ≡ with_speaker (with_at s t.at) k sp → Rights whose acts t
 rights_rest whose s t acts k sp at own right same = record { right = right; same = ap (λ (x : Stage). clients_in x.speakers) same ∙ kept_set whose s.speakers k sp at own }
+
+-- a conversation is changed, and nothing is done
+rights_set : (whose : List Clients) (s t : Stage) (acts : List Act) (k : ℕ) (sp : Speaker) → clients_in s.speakers ≡ whose → slice_get whose k ≡ Some sp.clients → acts ≡ [] → t ≡ with_speaker s k sp → Rights whose acts t
+rights_set whose s t acts k sp at own none same = record { right = right-none whose acts none; same = ap (λ (x : Stage). clients_in x.speakers) same ∙ kept_set whose s.speakers k sp at own }
 
 -- of conversations that speak for these
 of_own : (whose : List Clients) (s : Stage) (acts : List Act) → clients_in s.speakers ≡ whose → Right (clients_in s.speakers) acts → Right whose acts
@@ -225,10 +80,10 @@ of_own whose s acts at right = subst (λ (w : List Clients). Right w acts) at ri
 answers_right : (whose : List Clients) (k : ℕ) (sp : Speaker) (text : List ℕ) (s : Stage) (acts : List Act) (t : Stage) → clients_in s.speakers ≡ whose → slice_get whose k ≡ Some sp.clients → Answers k sp text s acts t → Rights whose acts t
 answers_right whose k sp text s acts t at own (at_once fits is went same) = rights_rest whose s t acts k (resting sp rest.Nothing) at own (subst (λ (l : List Act). Right whose l) (sym is) (tt, tt)) same
 answers_right whose k sp text s acts t at own (waits crowded none left waiting same) =
-    record { right = right_none whose acts none; same = ap (λ (x : Stage). clients_in x.speakers) same ∙ kept_set whose s.speakers k (resting sp left) at own }
+    record { right = right-none whose acts none; same = ap (λ (x : Stage). clients_in x.speakers) same ∙ kept_set whose s.speakers k (resting sp left) at own }
 
 settles_stage : (whose : List Clients) (s : Stage) (acts : List Act) (t : Stage) → clients_in s.speakers ≡ whose → SettlesAll s acts t → Rights whose acts t
-settles_stage whose s acts t at (settles, same) = rights_at whose s t acts at (of_own whose s acts at (settles_right s.speakers s.clients s.at acts t.at settles)) same
+settles_stage whose s acts t at (settles, same) = rights_at whose s t acts at (of_own whose s acts at (settles-right s.speakers s.clients s.at acts t.at settles)) same
 
 settles_if_right : (whose : List Clients) (posted : Result ℕ PostFault) (s : Stage) (acts : List Act) (t : Stage) → clients_in s.speakers ≡ whose → SettlesIf posted s acts t → Rights whose acts t
 settles_if_right whose (Ok n) s acts t at settles = settles_stage whose s acts t at settles
@@ -237,19 +92,19 @@ settles_if_right whose (Err fault) s acts t at (none, same) = rights_none whose 
 posts_right : (whose : List Clients) (k : ℕ) (sp : Speaker) (mark : Option (List ℕ)) (client : ℕ) (order : Order) (s : Stage) (acts : List Act) (t : Stage) → clients_in s.speakers ≡ whose → slice_get whose k ≡ Some sp.clients
     → Posts k sp mark client order s acts t → Rights whose acts t
 posts_right whose k sp mark client order s acts t at own posts =
-    rights_then whose posts.one t acts posts.first (posts.second ++ posts.third) posts.parts
-    (record { right = posted_right whose client order posts.posted posts.note posts.new s.at.fleet.talk posts.first posts.one.at.fleet.talk posts.is; same = ap (λ (x : Stage). clients_in x.speakers) posts.same ∙ at })
-    (λ one. rights_then whose posts.two t (posts.second ++ posts.third) posts.second posts.third refl (answers_right whose k sp _ posts.one posts.second posts.two one own posts.answers)
+    rights-then whose posts.one t acts posts.first (posts.second ++ posts.third) posts.parts
+    (record { right = posted-right whose client order posts.posted posts.note posts.new s.at.fleet.talk posts.first posts.one.at.fleet.talk posts.is; same = ap (λ (x : Stage). clients_in x.speakers) posts.same ∙ at })
+    (λ one. rights-then whose posts.two t (posts.second ++ posts.third) posts.second posts.third refl (answers_right whose k sp _ posts.one posts.second posts.two one own posts.answers)
     (λ two. settles_if_right whose posts.posted posts.two posts.third t two posts.settles))
 
 shuts_right : (whose : List Clients) (k : ℕ) (sp : Speaker) (mark : Option (List ℕ)) (robot : ℕ) (s : Stage) (acts : List Act) (t : Stage) → clients_in s.speakers ≡ whose → slice_get whose k ≡ Some sp.clients → ShutsOne k sp mark robot s acts t
     → Rights whose acts t
 shuts_right whose k sp mark robot s acts t at own shuts =
-    rights_then whose shuts.mid t acts shuts.first shuts.second shuts.parts (rights_at whose s shuts.mid shuts.first at (shut_right whose robot shuts.shuts.reply s.at shuts.first shuts.mid.at shuts.shuts.step) shuts.same)
+    rights-then whose shuts.mid t acts shuts.first shuts.second shuts.parts (rights_at whose s shuts.mid shuts.first at (shut-right whose robot shuts.shuts.reply s.at shuts.first shuts.mid.at shuts.shuts.step) shuts.same)
     (λ mid. answers_right whose k sp _ shuts.mid shuts.second t mid own shuts.answers)
 
 chapter_right : (whose : List Clients) (k : ℕ) (sp : Speaker) (mark : Option (List ℕ)) (s : Stage) (acts : List Act) (t : Stage) → clients_in s.speakers ≡ whose → slice_get whose k ≡ Some sp.clients → TurnsChapter k sp mark s acts t → Rights whose acts t
-chapter_right whose k sp mark s acts t at own (asking.handed hands left keeping same) = rights_rest whose s t acts k (resting sp left) at own (hands_right whose true s.at acts t.at hands) same
+chapter_right whose k sp mark s acts t at own (asking.handed hands left keeping same) = rights_rest whose s t acts k (resting sp left) at own (hands-right whose true s.at acts t.at hands) same
 chapter_right whose k sp mark s acts t at own (asking.last is answers) = answers_right whose k sp _ s acts t at own answers
 
 grants_right : (whose : List Clients) (k : ℕ) (sp : Speaker) (mark : Option (List ℕ)) (asked : Wanted) (s : Stage) (acts : List Act) (t : Stage) → clients_in s.speakers ≡ whose → slice_get whose k ≡ Some sp.clients → Grants k sp mark asked s acts t
@@ -258,7 +113,7 @@ grants_right whose k sp mark (wanted.Shut robot) s acts t at own shuts = shuts_r
 grants_right whose k sp mark wanted.Look s acts t at own (text, look, answers) = answers_right whose k sp _ s acts t at own answers
 grants_right whose k sp mark wanted.Chapter s acts t at own chapter = chapter_right whose k sp mark s acts t at own chapter
 grants_right whose k sp mark (wanted.Tick times) s acts t at own (left, ticking, none, same) =
-    record { right = right_none whose acts none; same = ap (λ (x : Stage). clients_in x.speakers) same ∙ kept_set whose s.speakers k (resting sp left) at own }
+    record { right = right-none whose acts none; same = ap (λ (x : Stage). clients_in x.speakers) same ∙ kept_set whose s.speakers k (resting sp left) at own }
 grants_right whose k sp mark (wanted.Open client) s acts t at own (none, same) = rights_none whose s t acts at none same
 grants_right whose k sp mark wanted.Settle s acts t at own (none, same) = rights_none whose s t acts at none same
 
@@ -269,7 +124,7 @@ opens_right whose k sp mark client s acts t at own opens =
 
 ends_right : (whose : List Clients) (s : Stage) (acts : List Act) (t : Stage) → clients_in s.speakers ≡ whose → Ends s acts t → Rights whose acts t
 ends_right whose s acts t at ends = record {
-  right = right_range whose TakesLeft 0 s.clients (λ n above below a acts b one. right_if whose (IsClosing n) (closing_right whose n) acts one.only) s.at acts t.at ends.takes;
+  right = right-range whose TakesLeft 0 s.clients (λ n above below a acts b one. right-if whose (IsClosing n) (closing-right whose n) acts one.only) s.at acts t.at ends.takes;
   same = ap (λ (x : Stage). clients_in x.speakers) ends.same ∙ (ended_same s.speakers ∙ at);
 }
 
@@ -296,14 +151,14 @@ obeys_right whose k sp line demand.Bad s acts t at own answers = answers_right w
 
 ticks_then_right : (whose : List Clients) (is : Bool) (k : ℕ) (sp : Speaker) (mark : Option (Vec ℕ Global)) (left : ℕ) (reply : Reply) (s : Stage) (acts : List Act) (t : Stage) → clients_in s.speakers ≡ whose → slice_get whose k ≡ Some sp.clients
     → TicksThen is k sp mark left reply s acts t → Rights whose acts t
-ticks_then_right whose true k sp mark left reply s acts t at own (shows, same) = rights_rest whose s t acts k _ at own (shows_right whose s.speakers s.at acts t.at shows) same
+ticks_then_right whose true k sp mark left reply s acts t at own (shows, same) = rights_rest whose s t acts k _ at own (shows-right whose s.speakers s.at acts t.at shows) same
 ticks_then_right whose false k sp mark left reply s acts t at own answers = answers_right whose k sp _ s acts t at own answers
 
 ticks_right : (whose : List Clients) (k : ℕ) (sp : Speaker) (mark : Option (Vec ℕ Global)) (left : ℕ) (s : Stage) (acts : List Act) (t : Stage) → clients_in s.speakers ≡ whose → slice_get whose k ≡ Some sp.clients → TicksOnce k sp mark left s acts t
     → Rights whose acts t
 ticks_right whose k sp mark left s acts t at own ticks =
-    rights_then whose ticks.mid t acts ticks.first ticks.second ticks.parts
-    (rights_at whose s ticks.mid ticks.first at (of_own whose s ticks.first at (turns_right s.speakers s.clients ticks.reply s.at ticks.first ticks.mid.at ticks.turns)) ticks.same)
+    rights-then whose ticks.mid t acts ticks.first ticks.second ticks.parts
+    (rights_at whose s ticks.mid ticks.first at (of_own whose s ticks.first at (turns-right s.speakers s.clients ticks.reply s.at ticks.first ticks.mid.at ticks.turns)) ticks.same)
     (λ mid. ticks_then_right whose (goes_on ticks.reply left) k sp mark left ticks.reply ticks.mid ticks.second t mid own ticks.goes)
 
 ended_or_right : (whose : List Clients) (is : Bool) (s t : Stage) (acts : List Act) (k : ℕ) (sp : Speaker) → clients_in s.speakers ≡ whose → slice_get whose k ≡ Some sp.clients → Right whose acts
@@ -312,15 +167,15 @@ ended_or_right whose true s t acts k sp at own right same = rights_rest whose s 
 ended_or_right whose false s t acts k sp at own right same = rights_at whose s t acts at right same
 
 tells_rest_right : (whose : List Clients) (k : ℕ) (sp : Speaker) (s : Stage) (acts : List Act) (t : Stage) → clients_in s.speakers ≡ whose → slice_get whose k ≡ Some sp.clients → TellsRest k sp s acts t → Rights whose acts t
-tells_rest_right whose k sp s acts t at own (resting_as.full tells is same) = rights_at whose s t acts at (tells_clients_right whose k sp.clients own s.at acts t.at tells) same
+tells_rest_right whose k sp s acts t at own (resting_as.full tells is same) = rights_at whose s t acts at (tells-clients-right whose k sp.clients own s.at acts t.at tells) same
 tells_rest_right whose k sp s acts t at own (resting_as.all mid first last is tells says parts same) =
-    ended_or_right whose is s t acts k sp at own (right_then whose acts first last parts (tells_whole_right whose k sp.clients own s.at first mid tells) (says_right whose is k _ mid last t.at says)) same
+    ended_or_right whose is s t acts k sp at own (right-then whose acts first last parts (tells-whole-right whose k sp.clients own s.at first mid tells) (says-right whose is k _ mid last t.at says)) same
 
 continues_right : (whose : List Clients) (left : Rest) (k : ℕ) (sp : Speaker) (s : Stage) (acts : List Act) (t : Stage) → clients_in s.speakers ≡ whose → slice_get whose k ≡ Some sp.clients → Continues left k sp s acts t → Rights whose acts t
 continues_right whose rest.Nothing k sp s acts t at own (none, same) = rights_none whose s t acts at none same
 continues_right whose (rest.Line line) k sp s acts t at own answers = answers_right whose k sp line.items s acts t at own answers
 continues_right whose (rest.Ticking mark left) k sp s acts t at own ticks = ticks_right whose k sp mark left s acts t at own ticks
-continues_right whose (rest.Listing list) k sp s acts t at own (is, left, lists, same, says) = rights_rest whose s t acts k (resting sp left) at own (says_right whose is k _ s.at acts t.at says) same
+continues_right whose (rest.Listing list) k sp s acts t at own (is, left, lists, same, says) = rights_rest whose s t acts k (resting sp left) at own (says-right whose is k _ s.at acts t.at says) same
 continues_right whose (rest.Keeping mark chapter entries) k sp s acts t at own (none, same) = rights_none whose s t acts at none same
 continues_right whose rest.Ending k sp s acts t at own tells = tells_rest_right whose k sp s acts t at own tells
 continues_right whose rest.Ended k sp s acts t at own (none, same) = rights_none whose s t acts at none same
@@ -343,44 +198,40 @@ kept_right whose rest.Ended number k sp s acts t at own (none, same) = rights_no
 
 -- the conversation that is there speaks for its clients
 own_there : (whose : List Clients) (s : Stage) (k : ℕ) (sp : Speaker) → clients_in s.speakers ≡ whose → slice_get s.speakers k ≡ Some sp → slice_get whose k ≡ Some sp.clients
-own_there whose s k sp at there = ap (λ (w : List Clients). slice_get w k) (sym at) ∙ there_in s.speakers k sp there
+own_there whose s k sp at there = ap (λ (w : List Clients). slice_get w k) (sym at) ∙ there-in s.speakers k sp there
 
 notes_right : (whose : List Clients) (chapter : ℕ) (numbers : List ℕ) (s : Stage) (acts : List Act) (t : Stage) → clients_in s.speakers ≡ whose → Each (KeptAt chapter) numbers s acts t → Rights whose acts t
 notes_right whose chapter [] s acts t at (none, same) = rights_none whose s t acts at none same
 notes_right whose chapter (n ∷ numbers) s acts t at parts =
     let (sp, there, kept) = parts.before in
-    rights_then whose parts.mid t acts parts.first parts.rest parts.parts (kept_right whose sp.rest chapter n sp s parts.first parts.mid at (own_there whose s n sp at there) kept)
+    rights-then whose parts.mid t acts parts.first parts.rest parts.parts (kept_right whose sp.rest chapter n sp s parts.first parts.mid at (own_there whose s n sp at there) kept)
     (λ mid. notes_right whose chapter numbers parts.mid parts.rest t mid parts.after)
 
 shows_turn_right : (whose : List Clients) (is : Bool) (s : Stage) (acts : List Act) (t : Stage) → clients_in s.speakers ≡ whose → ShowsTurn is s acts t → Rights whose acts t
-shows_turn_right whose true s acts t at (shows, same) = rights_at whose s t acts at (shows_right whose s.speakers s.at acts t.at shows) same
-shows_turn_right whose false s acts t at (none, same) = record { right = right_none whose acts none; same = ap (λ (x : Stage). clients_in x.speakers) same ∙ at }
+shows_turn_right whose true s acts t at (shows, same) = rights_at whose s t acts at (shows-right whose s.speakers s.at acts t.at shows) same
+shows_turn_right whose false s acts t at (none, same) = record { right = right-none whose acts none; same = ap (λ (x : Stage). clients_in x.speakers) same ∙ at }
 
 hands_due_right : (whose : List Clients) (none : Bool) (s : Stage) (acts : List Act) (t : Stage) → clients_in s.speakers ≡ whose → HandsDue none s acts t → Rights whose acts t
 hands_due_right whose true s acts t at (none, same) = rights_none whose s t acts at none same
-hands_due_right whose false s acts t at (is, hands, same) = rights_at whose s t acts at (hands_right whose is s.at acts t.at hands) same
+hands_due_right whose false s acts t at (is, hands, same) = rights_at whose s t acts at (hands-right whose is s.at acts t.at hands) same
 
 ends_answer_right : (whose : List Clients) (is : Bool) (k : ℕ) (m t : Stage) (acts : List Act) → Rights whose acts m → EndsAnswer is k m t → Rights whose acts t
 ends_answer_right whose true k m t acts rights (sp, there, same) =
     record { right = rights.right; same = ap (λ (x : Stage). clients_in x.speakers) same ∙ kept_set whose m.speakers k (at_end sp) rights.same (own_there whose m k sp rights.same there) }
 ends_answer_right whose false k m t acts rights same = subst (λ (x : Stage). Rights whose acts x) (sym same) rights
 
-does_right : (whose : List Clients) (s : Stage) (event : Heard) (acts : List Act) (t : Stage) → clients_in s.speakers ≡ whose → Does s event acts t → Rights whose acts t
-does_right whose s (heard.line from bytes) acts t at hears =
+pub does-right : (whose : List Clients) (s : Stage) (event : Heard) (acts : List Act) (t : Stage) → clients_in s.speakers ≡ whose → Does s event acts t → Rights whose acts t
+does-right whose s (heard.line from bytes) acts t at hears =
     let own = own_there whose s from hears.before at hears.speaks ∙ ap (λ (x : Speaker). Some x.clients) (sym hears.counts) in
     obeys_right whose from hears.speaker hears.line _ (with_speaker s from hears.speaker) acts t (kept_set whose s.speakers from hears.speaker at own) own hears.obeys
-does_right whose s (heard.room to) acts t at (tells, same) = rights_at whose s t acts at (of_own whose s acts at (tells_at_right s.speakers to s.at acts t.at tells)) same
-does_right whose s (heard.rest from) acts t at (mid, (sp, there, continues), ends) =
+does-right whose s (heard.room to) acts t at (tells, same) = rights_at whose s t acts at (of_own whose s acts at (tells-at-right s.speakers to s.at acts t.at tells)) same
+does-right whose s (heard.rest from) acts t at (mid, (sp, there, continues), ends) =
     ends_answer_right whose mid.has_ended from mid t acts (continues_right whose sp.rest from sp s acts mid at (own_there whose s from sp at there) continues) ends
-does_right whose s heard.turn acts t at turns =
-    rights_then whose turns.mid t acts turns.first turns.second turns.parts
-    (rights_at whose s turns.mid turns.first at (of_own whose s turns.first at (turns_right s.speakers s.clients turns.reply s.at turns.first turns.mid.at turns.turns)) turns.same)
+does-right whose s (heard.last from) acts t at (none, (sp, there, same)) = rights_set whose s t acts from (resting sp (last_turn sp.rest)) at (own_there whose s from sp at there) none same
+does-right whose s heard.turn acts t at turns =
+    rights-then whose turns.mid t acts turns.first turns.second turns.parts
+    (rights_at whose s turns.mid turns.first at (of_own whose s turns.first at (turns-right s.speakers s.clients turns.reply s.at turns.first turns.mid.at turns.turns)) turns.same)
     (λ mid. shows_turn_right whose (is_ticked turns.reply) turns.mid turns.second t mid turns.shows)
-does_right whose s heard.due acts t at hands = hands_due_right whose _ s acts t at hands
-does_right whose s (heard.kept chapter) acts t at notes = notes_right whose chapter (range_with_len 0 (length s.speakers)) s acts t at notes
-does_right whose s heard.end acts t at ends = ends_right whose s acts t at ends
-
-pub plays-right : (whose : List Clients) (s : Stage) (events : List Heard) (acts : List Act) (t : Stage) → clients_in s.speakers ≡ whose → Plays s events acts t → Rights whose acts t
-plays-right whose s [] acts t at (none, same) = rights_none whose s t acts at none same
-plays-right whose s (event ∷ events) acts t at (mid, first, more, does, plays, parts) =
-    rights_then whose mid t acts first more parts (does_right whose s event first mid at does) (λ there. plays-right whose mid events more t there plays)
+does-right whose s heard.due acts t at hands = hands_due_right whose _ s acts t at hands
+does-right whose s (heard.kept chapter) acts t at notes = notes_right whose chapter (range_with_len 0 (length s.speakers)) s acts t at notes
+does-right whose s heard.end acts t at ends = ends_right whose s acts t at ends

@@ -13,7 +13,7 @@ use Rattle.live_fleet.specs.declared.rest.Rest.TheVariants as rest
 use Rattle.live_fleet.specs.declared.speaker.Speaker.{Speaker}
 use Rattle.live_fleet.specs.Act.{Act}
 use Rattle.live_fleet.specs.Answering.{Answers, mark_kept}
-use Rattle.live_fleet.specs.Look.{IsLook}
+use Rattle.fleet_talk.specs.Look.{IsLook}
 use Rattle.live_fleet.specs.Party.{Stage, with_at, with_rest}
 use Rattle.live_fleet.specs.Stepping.{HandsOut, StepsOn, IsLast}
 use Rattle.live_fleet.specs.Went.{At}

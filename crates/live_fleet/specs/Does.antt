@@ -6,8 +6,9 @@ use Rattle.live_fleet.specs.Act.{Act}
 use Rattle.live_fleet.specs.Ending.{Ends}
 use Rattle.live_fleet.specs.Hearing.{HearsLine}
 use Rattle.live_fleet.specs.Open.{is_done}
-use Rattle.live_fleet.specs.Party.{Heard, IsWhole, Stage, line, room, rest, turn, due, kept, end, with_at}
-use Rattle.live_fleet.specs.Resting.{GoesOn, NotesKept}
+use Rattle.live_fleet.specs.Out.{Out}
+use Rattle.live_fleet.specs.Party.{Heard, IsWhole, Stage, line, room, rest, last, turn, due, kept, end, with_at, with_out}
+use Rattle.live_fleet.specs.Resting.{GoesOn, Hastens, NotesKept}
 use Rattle.live_fleet.specs.Stepping.{HandsOut}
 use Rattle.live_fleet.specs.Telling.{TellsAt}
 use Rattle.live_fleet.specs.Turning.{Shows, Turns, is_ticked}
@@ -38,6 +39,7 @@ abbrev pub Does : Stage → Heard → List Act → Stage → Type 0
 Does s (line from bytes) acts t = HearsLine from bytes s acts t
 Does s (room to) acts t = TellsAt s.speakers to s.at acts t.at × (t ≡ with_at s t.at)
 Does s (rest from) acts t = GoesOn from s acts t
+Does s (last from) acts t = (acts ≡ []) × Hastens from s t
 Does s turn acts t = MakesTurn s acts t
 Does s due acts t = HandsDue (length s.at.fleet.talk.world.history.entries == 0) s acts t
 Does s (kept chapter) acts t = NotesKept chapter s acts t
@@ -52,6 +54,7 @@ abbrev pub IsOpenTo : List Speaker → (is_over has_ended : Bool) → Heard → 
 IsOpenTo who is_over has_ended (line from bytes) = IsAnswered who from
 IsOpenTo who is_over has_ended (room to) = to < length who
 IsOpenTo who is_over has_ended (rest from) = from < length who
+IsOpenTo who is_over has_ended (last from) = from < length who
 IsOpenTo who is_over has_ended turn = is_over ≡ false
 IsOpenTo who is_over has_ended due = Unit {0}
 IsOpenTo who is_over has_ended (kept chapter) = Unit {0}
@@ -61,7 +64,13 @@ IsOpenTo who is_over has_ended end = has_ended ≡ false
 abbrev pub CanHear : Stage → Heard → Type 0
 CanHear s event = IsWhole s × IsOpenTo s.speakers s.is_over s.has_ended event
 
--- many events one after another. What each conversation was told, the chapters and the status follow by Went
-abbrev pub Plays : Stage → List Heard → List Act → Stage → Type 0
-Plays s [] acts t = (acts ≡ []) × (t ≡ s)
-Plays s (event ∷ events) acts t = (mid : Stage) × (first : List Act) × (rest : List Act) × Does s event first mid × Plays mid events rest t × (acts ≡ first ++ rest)
+-- Events one after another, in these acts. Between two of them readers may take some of what waits: then other texts and chapters wait
+pub data Plays : Stage → List Heard → List Act → Stage → Type 0 where
+  hears : (s : Stage) → (event : Heard) → (acts : List Act) → (t : Stage) → Does s event acts t → Plays s (event ∷ []) acts t
+  takes : (s : Stage) → (out : Out) → Plays s [] [] (with_out s out)
+  then : (s m t : Stage) → (first second : List Heard) → (before after : List Act) → Plays s first before m → Plays m second after t → Plays s (first ++ second) (before ++ after) t
+
+-- The same where readers take nothing. What each conversation was told, the chapters and the status follow by Went
+abbrev pub PlaysUnread : Stage → List Heard → List Act → Stage → Type 0
+PlaysUnread s [] acts t = (acts ≡ []) × (t ≡ s)
+PlaysUnread s (event ∷ events) acts t = (mid : Stage) × (first : List Act) × (rest : List Act) × Does s event first mid × PlaysUnread mid events rest t × (acts ≡ first ++ rest)

@@ -82,5 +82,5 @@ pub record HearsLine (k : ℕ) (bytes : List ℕ) (s : Stage) (acts : List Act) 
   pub speaker : Speaker
   pub counts : speaker ≡ numbered before
   pub line : Line
-  pub is : line ≡ line_let_in s.refused speaker.lines bytes
+  pub is : line ≡ line_let_in s.door.refused speaker.lines bytes
   pub obeys : Obeys k speaker line (demand_of speaker.rights line.asked line.told) (with_speaker s k speaker) acts t

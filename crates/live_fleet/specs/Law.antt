@@ -1,6 +1,6 @@
 -- What holds of a fleet of many conversations, whatever events it hears.
-use Rattle.std.specs.Prelude.{◌≡◌, ◌==◌, ℕ, ◌≤◌, ◌<◌, List, [], ◌∷◌, ◌++◌, length, map, MatchOption, slice_get, if◌then◌else◌}
-use Rattle.std.specs.List.{AllByRecursion, flat_map}
+use Rattle.std.specs.Prelude.{◌≡◌, ◌==◌, ℕ, ◌+◌, ◌≤◌, ◌<◌, ◌||◌, ◌⊎◌, Option, Some, List, [], ◌∷◌, ◌++◌, length, map, MatchOption, slice_get, if◌then◌else◌}
+use Rattle.std.specs.List.{AllByRecursion, flat_map, range_with_len}
 use Rattle.std.specs.declared.alloc.Global.{Global}
 use Rattle.fleet_book.specs.declared.event.Event.TheVariants.{Collect}
 use Rattle.fleet_world.specs.declared.reply.Reply.TheVariants.{Collected}
@@ -8,23 +8,36 @@ use Rattle.fleet_book.specs.declared.notice.Notice.{Notice}
 use Rattle.fleet_grid.specs.Floor.{Floor}
 use Rattle.fleet_bound.specs.Bound.{KeepsBound, WaitsAreBounded}
 use Rattle.fleet_bound.specs.Roomy.{AdvancesIfRoomy, AreRoomy}
-use Rattle.fleet_history.specs.History.{History, start}
+use Rattle.fleet_history.specs.History.{History, clients, start}
 use Rattle.fleet_history.specs.Laws.{AcceptsNoneClosed, ArrivalsRise, ArrivesInOrder, HasNoConflict}
 use Rattle.fleet_history.specs.Notices.{notices}
 use Rattle.fleet_history.specs.Numbering.{AreNumbered}
+use Rattle.fleet_core.specs.declared.open_errands.OpenErrand.{OpenErrand}
 use Rattle.fleet_talk.specs.Chapters.{AreTurned, ChapterView, beginning}
+use Rattle.fleet_talk.specs.Fleet.{Fleet}
+use Rattle.fleet_talk.specs.Says.{marked}
+use Rattle.fleet_text.specs.Answers.{open_text}
 use Rattle.fleet_world.specs.Talk.{Talk, mailbox, waiting}
+use Rattle.live_fleet.specs.declared.rest.Rest.TheVariants.{Ended, Ending}
 use Rattle.live_fleet.specs.declared.speaker.Clients.{Clients}
 use Rattle.live_fleet.specs.declared.speaker.Speaker.{Speaker}
-use Rattle.live_fleet.specs.Act.{Act, did, told}
-use Rattle.live_fleet.specs.Does.{Plays}
+use Rattle.live_fleet.specs.Act.{Act, Runs, did, met_by, said, told}
+use Rattle.live_fleet.specs.Does.{Does, Plays, PlaysUnread}
 use Rattle.live_fleet.specs.Out.{chapters_of}
-use Rattle.live_fleet.specs.Party.{Heard, IsWhole, Stage}
+use Rattle.live_fleet.specs.Party.{Heard, Stage, turn}
+use Rattle.live_fleet.specs.Resting.{GoesOn, line_listed}
+use Rattle.live_fleet.specs.Telling.{FindsNothing}
+use Rattle.live_fleet.specs.Turning.{place_line}
 use Rattle.live_fleet.specs.Went.{Went}
 
--- Its acts are a run of the core, and what each conversation was told, the chapters that were handed out and the status are what the acts say
+-- acts that are a run of the core, which met a limit if one of them did
+pub record IsRun (a : Fleet Global) (acts : List Act) (b : Fleet Global) : Type 0 where
+  pub runs : Runs a.talk acts b.talk
+  pub met : b.met ≡ (a.met || met_by acts)
+
+-- Whatever readers take in between, its acts are such; where they take nothing, what each conversation was told and the chapters that were handed out are what the acts say too
 abbrev pub EachGoesOn : Type 0
-EachGoesOn = (s t : Stage) (events : List Heard) (acts : List Act) → Plays s events acts t → Went s.at acts t.at
+EachGoesOn = (s t : Stage) (events : List Heard) (acts : List Act) → (Plays s events acts t → IsRun s.at.fleet acts t.at.fleet) × (PlaysUnread s events acts t → Went s.at acts t.at)
 
 -- each history that was handed out is legal, and begins where the one before ended
 abbrev pub EachFollows : Type 0
@@ -91,3 +104,49 @@ abbrev pub EachIsToldOnce : Type 0
 EachIsToldOnce =
     (s t : Stage) (events : List Heard) (acts : List Act) → Plays s events acts t → (c : ℕ) → IsKnown s.at.fleet.talk c → s.at.fleet.talk.world.history.entries ≡ []
     → notices_told c acts ++ left_of t.at.fleet.talk c ≡ left_of s.at.fleet.talk c ++ (notices_in c (chapters_of acts) ++ notices t.at.fleet.talk.world.history c)
+
+-- ---- turns
+
+-- a notice is told, or nothing is said
+abbrev pub IsUnsaid : Act → Type 0
+IsUnsaid (said to text) = ⊥
+IsUnsaid _ = Unit {0}
+
+-- this line is shown
+abbrev pub IsShown : List ℕ → Act → Type 0
+IsShown line (said to text) = text ≡ line
+IsShown line _ = ⊥
+
+-- first notices are told, and then the line of where the robots stand now is shown
+pub record IsShownLast (acts : List Act) (s : Talk Global) : Type 0 where
+  pub first : List Act
+  pub last : List Act
+  pub parts : acts ≡ first ++ last
+  pub tells : AllByRecursion IsUnsaid first
+  pub shows : AllByRecursion (IsShown (place_line s)) last
+
+-- so is each turn: its line comes after its notices
+abbrev pub EachTurnIsShownLast : Type 0
+EachTurnIsShownLast = (s t : Stage) (acts : List Act) → Does s turn acts t → IsShownLast acts t.at.fleet.talk
+
+-- ---- the end
+
+-- no notice is left for a client
+abbrev pub IsQuiet : Talk Global → ℕ → Type 0
+IsQuiet s c = (clients s.world.history ≤ c) ⊎ FindsNothing s c
+
+-- all is said to a conversation
+abbrev pub HasEnded : List Speaker → ℕ → Type 0
+HasEnded who k = MatchOption (slice_get who k) ⊥ (λ sp. sp.rest ≡ Ended)
+
+-- once all is said to a conversation at the end, no notice is left for its clients
+abbrev pub EachEndIsLast : Type 0
+EachEndIsLast = (s t : Stage) (k : ℕ) (sp : Speaker) (acts : List Act) → slice_get s.speakers k ≡ Some sp → sp.rest ≡ Ending → GoesOn k s acts t → HasEnded t.speakers k
+    → (c : ℕ) → sp.clients.first ≤ c → c < sp.clients.end → IsQuiet t.at.fleet.talk c
+
+-- ---- lists
+
+-- A list that is told line by line is the text that `fleet talk` says at once, each line under the mark: the lines after none, after one, and so on, to the one that says how many errands they are
+abbrev pub EachListIsWhole : Type 0
+EachListIsWhole = (mark : Option (List ℕ)) (client : ℕ) (errands : List OpenErrand)
+    → flat_map (λ n. marked mark (line_listed client errands n)) (range_with_len 0 (length errands + 1)) ≡ marked mark (open_text client errands)

@@ -6,7 +6,6 @@ pub mod Open
 pub mod Telling
 pub mod Taking
 pub mod Turning
-pub mod Look
 pub mod Length
 pub mod Party
 pub mod Answering

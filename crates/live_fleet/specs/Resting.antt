@@ -1,5 +1,5 @@
 -- How an answer goes on.
-use Rattle.std.specs.Prelude.{◌≡◌, ◌==◌, ℕ, ◌+◌, ◌-◌, nat_lt, Bool, true, false, ◌&&◌, List, [], ◌∷◌, ◌++◌, Option, Some, None, MatchBool, Vec, length, slice_get, if◌then◌else◌}
+use Rattle.std.specs.Prelude.{◌≡◌, ◌==◌, ℕ, ◌+◌, ◌-◌, nat_lt, Bool, true, false, ◌&&◌, List, [], ◌∷◌, ◌++◌, Option, Some, None, MatchBool, Vec, length, slice_get, if◌then◌else◌, min}
 use Rattle.std.specs.List.{range_with_len}
 use Rattle.std.specs.declared.alloc.Global.{Global}
 use Rattle.fleet_core.specs.declared.open_errands.OpenErrand.{OpenErrand}
@@ -45,6 +45,15 @@ pub record TicksOnce (k : ℕ) (sp : Speaker) (mark : Option (Vec ℕ Global)) (
   pub second : List Act
   pub goes : TicksThen (goes_on reply left) k sp mark left reply mid second t
   pub parts : acts ≡ first ++ second
+
+-- no more than one is left
+abbrev pub last_turn : Rest → Rest
+last_turn (rest.Ticking mark left) = rest.Ticking mark (min left 1)
+last_turn before = before
+
+-- of the turns that are left for a conversation no more than one is to be made
+abbrev pub Hastens : ℕ → Stage → Stage → Type 0
+Hastens k s t = (sp : Speaker) × (slice_get s.speakers k ≡ Some sp) × (t ≡ with_rest s k sp (last_turn sp.rest))
 
 -- ---- a list
 

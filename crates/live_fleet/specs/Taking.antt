@@ -23,6 +23,10 @@ IsTaking client (full (Take c)) = c ≡ client
 IsTaking client (handed c) = Unit {0}
 IsTaking client _ = ⊥
 
+-- no order of a client waits
+abbrev pub HasNoOrder : Talk Global → ℕ → Type 0
+HasNoOrder s client = (clients s.world.history ≤ client) ⊎ (length (waiting s client).lane ≡ 0)
+
 -- no order of a client can be judged now
 abbrev pub AllTaken : Talk Global → ℕ → Type 0
 AllTaken s client =

@@ -35,6 +35,10 @@ IsTelling to client _ = ⊥
 abbrev pub FindsNothing : Talk Global → ℕ → Type 0
 FindsNothing s client = ((waiting s client).outlet ≡ []) × ((mailbox s client ≡ []) ⊎ (s.world.limits.outlet ≡ 0))
 
+-- no notice waits for a client
+abbrev pub HasNoNotice : Talk Global → ℕ → Type 0
+HasNoNotice s client = (clients s.world.history ≤ client) ⊎ ((length (waiting s client).outlet ≡ 0) × (length (mailbox s client) ≡ 0))
+
 -- what became of a client's next notice: it was told, there is none, or there is no room
 abbrev pub ComesTo : ℕ → ℕ → Told → At → At → Type 0
 ComesTo to client told.One a b = length (text_at a.out to) + 1 ≤ length (text_at b.out to)

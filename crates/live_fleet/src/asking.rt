@@ -5,16 +5,16 @@ ghost use Rattle.fleet_talk.specs.Said.{under};
 ghost use Rattle.live_fleet.specs.declared.speaker.Speaker.{Speaker};
 ghost use Rattle.live_fleet.specs.Act.{Act};
 ghost use Rattle.live_fleet.specs.Asking.{Grants, ShutsOne, TurnsChapter};
-ghost use Rattle.live_fleet.specs.Party.{stage_of};
+ghost use Rattle.live_fleet.specs.Party.{IsDoorOf, stage_of};
 ghost use Rattle.live_parts.specs.declared.demand.Wanted.TheVariants.{Look, Tick};
 
 use crate::answering::kept_mark;
 use crate::line::{Place, shut_answer};
-use crate::look::look_text;
 use crate::outboxes::Outboxes;
 use crate::party::Party;
 use crate::rest::Rest;
 use crate::stepping::hand_out;
+use fleet_talk::look_text;
 use fleet_text::chapter_refused_line;
 use live_parts::Wanted;
 use std::alloc::{Alloc, AllocError, Global};
@@ -95,10 +95,12 @@ impl Party {
         requires number { 0 ≤ self.old.fleet.session.world.core.number }
         requires there { place.to < vec_len self.old.speakers }
         requires texts { vec_len self.old.speakers ≤ vec_len out.old.texts }
+        requires door { IsDoorOf (stage_of self.old out.old) }
         ensures ok { OnOk result ((sp : Speaker) → slice_get self.old.speakers.items place.entry.to ≡ Some sp →
             (acts : List Act) × Grants place.entry.to sp (under place.entry.line.mark) Look (stage_of self.old out.old) acts (stage_of self.new out.new)) }
     {
-        let text = look_text(alloc, &self.fleet.session.world)?;
+        let session = &self.fleet.session;
+        let text = look_text(alloc, &session.world, &self.door.roominess)?;
         self.say(alloc, out, place, text.as_str())
     }
 
@@ -113,6 +115,7 @@ impl Party {
         requires number { 0 ≤ self.old.fleet.session.world.core.number }
         requires there { place.to < vec_len self.old.speakers }
         requires texts { vec_len self.old.speakers ≤ vec_len out.old.texts }
+        requires door { IsDoorOf (stage_of self.old out.old) }
         ensures ok { OnOk result ((sp : Speaker) → slice_get self.old.speakers.items place.entry.to ≡ Some sp →
             (acts : List Act) × Grants place.entry.to sp (under place.entry.line.mark) wanted (stage_of self.old out.old) acts (stage_of self.new out.new)) }
     {

@@ -9,6 +9,8 @@ pub enum Cue<'a> {
     Room { to: usize },
     /// What is left of a conversation's answer is to go on.
     Rest { from: usize },
+    /// Of the turns that are left for a conversation no more than one is to be made.
+    Last { from: usize },
     /// A turn is due.
     Turn,
     /// The chapter is due.

@@ -11,7 +11,7 @@ ghost use Rattle.live_fleet.specs.declared.speaker.Speaker.{Speaker};
 ghost use Rattle.live_fleet.specs.Act.{Act};
 ghost use Rattle.live_fleet.specs.Answering.{Answers};
 ghost use Rattle.live_fleet.specs.Hearing.{HearsLine, HearsNoRoom, HearsOpen, HearsPost, Obeys, Opens, is_own, next_number, numbered};
-ghost use Rattle.live_fleet.specs.Party.{IsWhole, stage_of};
+ghost use Rattle.live_fleet.specs.Party.{IsDoorOf, IsWhole, stage_of};
 ghost use Rattle.live_fleet.specs.Posting.{Posts, SettlesAll};
 
 use crate::answering::answer;
@@ -251,6 +251,7 @@ impl Party {
         requires there { place.to < vec_len self.old.speakers }
         requires texts { vec_len self.old.speakers ≤ vec_len out.old.texts }
         requires whole { IsWhole (stage_of self.old out.old) }
+        requires door { IsDoorOf (stage_of self.old out.old) }
         ensures ok { OnOk result ((sp : Speaker) → slice_get self.old.speakers.items place.entry.to ≡ Some sp →
             (acts : List Act) × Obeys place.entry.to sp (line_shown place.entry.line) demand (stage_of self.old out.old) acts (stage_of self.new out.new)) }
     {
@@ -278,12 +279,13 @@ impl Party {
         requires there { from < vec_len self.old.speakers }
         requires texts { vec_len self.old.speakers ≤ vec_len out.old.texts }
         requires whole { IsWhole (stage_of self.old out.old) }
+        requires door { IsDoorOf (stage_of self.old out.old) }
         ensures ok { OnOk result ((acts : List Act) × HearsLine from bytes.now (stage_of self.old out.old) acts (stage_of self.new out.new)) }
     {
         let speaker = &mut self.speakers[from];
         let number = next_line(speaker);
         let rights = speaker.rights;
-        let line = line_let_in(&self.refused, number, bytes);
+        let line = line_let_in(&self.door.refused, number, bytes);
         let demand = demand_of(rights, line);
         self.obey(rt, out, Place { to: from, line }, demand)
     }

@@ -1,9 +1,10 @@
 //! What holds of a fleet of many conversations, whatever it hears. The body of a law is empty: its contract is the law.
 
-ghost use Rattle.live_fleet.specs.Law.{EachFollows, EachGoesOn, EachIsSafe, EachIsToldOnce, EachIsToldRight};
+ghost use Rattle.live_fleet.specs.Law.{EachEndIsLast, EachFollows, EachGoesOn, EachIsSafe, EachIsToldOnce, EachIsToldRight, EachListIsWhole, EachTurnIsShownLast};
 
-/// Whatever a fleet hears, what it does is a run of the core, and what each conversation is told, the chapters that are
-/// handed out and the status are what that run says.
+/// Whatever a fleet hears, and whatever readers take in between, what it does is a run of the core, and the status is
+/// what that run says. Where readers take nothing, what each conversation is told and the chapters that are handed out
+/// are too.
 pub fn whatever_it_hears_is_a_run()
     ensures { EachGoesOn }
 {}
@@ -29,4 +30,19 @@ pub fn notices_are_told_to_their_own()
 /// Each notice of a client is told once, and in order.
 pub fn notices_are_told_once()
     ensures { EachIsToldOnce }
+{}
+
+/// The open errands of a client that are told line by line are the text that `fleet talk` says at once.
+pub fn lists_are_told_whole()
+    ensures { EachListIsWhole }
+{}
+
+/// A turn tells its notices first, and then those who watch where the robots stand.
+pub fn turns_are_shown_last()
+    ensures { EachTurnIsShownLast }
+{}
+
+/// Once it is said to a conversation that the fleet ended, no notice is left for its clients.
+pub fn ends_are_told_last()
+    ensures { EachEndIsLast }
 {}

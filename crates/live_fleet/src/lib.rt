@@ -11,7 +11,6 @@ mod law;
 mod length;
 mod line;
 mod listing;
-mod look;
 mod notes;
 mod onward;
 mod open_fleet;
@@ -28,8 +27,9 @@ mod turning;
 
 pub use cue::Cue;
 pub use law::{
-    histories_are_safe, histories_follow_one_another, notices_are_told_once,
-    notices_are_told_to_their_own, whatever_it_hears_is_a_run,
+    ends_are_told_last, histories_are_safe, histories_follow_one_another, lists_are_told_whole,
+    notices_are_told_once, notices_are_told_to_their_own, turns_are_shown_last,
+    whatever_it_hears_is_a_run,
 };
 pub use notes::Note;
 pub use open_fleet::OpenFleet;

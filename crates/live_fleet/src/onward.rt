@@ -9,7 +9,7 @@ ghost use Rattle.live_fleet.specs.Act.{Act};
 ghost use Rattle.live_fleet.specs.Answering.{Answers, mark_kept};
 ghost use Rattle.live_fleet.specs.Open.{is_ending, turns_left};
 ghost use Rattle.live_fleet.specs.Party.{stage_of};
-ghost use Rattle.live_fleet.specs.Resting.{Continues, GoesOn, GoesOnce, NotesKept, ShowsOn, TellsRest, TicksOnce, goes_on};
+ghost use Rattle.live_fleet.specs.Resting.{Continues, GoesOn, GoesOnce, Hastens, NotesKept, ShowsOn, TellsRest, TicksOnce, goes_on};
 ghost use Rattle.live_fleet.specs.Turning.{tick_answer};
 ghost use Rattle.fleet_world.specs.Keeps.{talk};
 
@@ -18,7 +18,7 @@ use crate::ending::end_answer;
 use crate::outboxes::Outboxes;
 use crate::party::Party;
 use crate::rest::Rest;
-use crate::resting::{note_kept_of, say_on, set_left, take_mark};
+use crate::resting::{hasten, note_kept_of, say_on, set_left, take_mark};
 use crate::telling::tell_clients;
 use crate::turning::{is_ticked, say_if_room, show_tick, tick_answer, turn};
 use fleet_text::ended_line;
@@ -173,6 +173,16 @@ impl Party {
             end_answer(&mut self.speakers[from]);
         }
         Ok(())
+    }
+
+    /// Lets no more than one be made of the turns that are left for a conversation.
+    pub(crate) fn hasten(&mut self, from: usize, out: &Outboxes)
+        requires there { from < vec_len self.old.speakers }
+        ensures { Hastens from (stage_of self.old out.now) (stage_of self.new out.now) }
+    {
+        // It is read by the contract alone.
+        let _out = out;
+        hasten(&mut self.speakers[from]);
     }
 
     /// Answers those that wait until this chapter is kept.

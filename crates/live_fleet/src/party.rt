@@ -5,7 +5,7 @@ ghost use Rattle.fleet_history.specs.History.{clients as client_count};
 ghost use Rattle.fleet_world.specs.Keeps.{talk};
 ghost use Rattle.live_fleet.specs.Act.{Act};
 ghost use Rattle.live_fleet.specs.Does.{CanHear, Does, IsAnswered, IsOpenTo, MakesTurn};
-ghost use Rattle.live_fleet.specs.Party.{IsWhole, due, heard_of, new_notes, room, stage_of};
+ghost use Rattle.live_fleet.specs.Party.{IsDoorOf, IsWhole, due, heard_of, new_notes, room, stage_of};
 ghost use Rattle.live_fleet.specs.Went.{Went};
 
 use crate::cue::Cue;
@@ -16,7 +16,7 @@ use crate::speaker::Speaker;
 use crate::stepping::hand_out;
 use crate::telling::tell;
 use crate::turning::{is_ticked, show_tick, turn};
-use fleet_roomy::UnroomyCells;
+use fleet_talk::Door;
 use fleet_world::Session;
 use std::alloc::{Alloc, AllocError, Global};
 
@@ -30,8 +30,8 @@ pub struct Party {
     pub clients: u32,
     /// By client.
     pub notes: Vec<Note>,
-    /// The cells to which posts are refused.
-    pub refused: UnroomyCells,
+    /// The cells to which posts are refused, and for how many robots each cell is roomy.
+    pub door: Door,
     /// Whether no turn can follow: a tick was refused, or the fleet has ended.
     pub is_over: bool,
     /// Whether the fleet has ended.
@@ -69,7 +69,7 @@ impl Party {
         alloc: Global,
         session: Session,
         speakers: Vec<Speaker>,
-        refused: UnroomyCells,
+        door: Door,
     ) -> Result<Party, AllocError>
         // Of each call: only a call with a condition may hand on closures.
         requires { 0 ≤ session.world.core.number }
@@ -78,7 +78,7 @@ impl Party {
         ensures speakers { IfOk result (λ p. p.speakers ≡ speakers) }
         ensures clients { IfOk result (λ p. p.clients ≡ client_count session.world.core.history) }
         ensures notes { IfOk result (λ p. p.notes.items ≡ new_notes session.world.core.history) }
-        ensures refused { IfOk result (λ p. p.refused ≡ refused) }
+        ensures door { IfOk result (λ p. p.door ≡ door) }
         ensures is_over { IfOk result (λ p. p.is_over ≡ false) }
         ensures has_ended { IfOk result (λ p. p.has_ended ≡ false) }
     {
@@ -92,7 +92,7 @@ impl Party {
             speakers,
             clients,
             notes,
-            refused,
+            door,
             is_over: false,
             has_ended: false,
         })
@@ -124,7 +124,7 @@ impl Party {
         match cue {
             Cue::Line { from, .. } => self.is_answered(from),
             Cue::Room { to } => to < self.speakers.len(),
-            Cue::Rest { from } => from < self.speakers.len(),
+            Cue::Rest { from } | Cue::Last { from } => from < self.speakers.len(),
             Cue::Turn => !self.is_over,
             Cue::Due => true,
             Cue::Kept { .. } => true,
@@ -191,15 +191,21 @@ impl Party {
         // Of each call: only a call with a condition may hand on closures.
         requires number { 0 ≤ self.old.fleet.session.world.core.number }
         requires can { CanHear (stage_of self.old out.old) (heard_of cue) }
+        requires door { IsDoorOf (stage_of self.old out.old) }
         // These acts were done, and each conversation was told exactly what they say to it.
         ensures does { OnOk result ((acts : List Act) × Does (stage_of self.old out.old) (heard_of cue.entry) acts (stage_of self.new out.new)
             × Went (stage_of self.old out.old).at acts (stage_of self.new out.new).at) }
         ensures whole { OnOk result (IsWhole (stage_of self.new out.new)) }
+        ensures door { OnOk result (IsDoorOf (stage_of self.new out.new)) }
     {
         match cue {
             Cue::Line { from, line } => self.hear_line(rt, out, from, line),
             Cue::Room { to } => self.tell_in(rt, out, to),
             Cue::Rest { from } => self.go_on(rt, out, from),
+            Cue::Last { from } => {
+                self.hasten(from, out);
+                Ok(())
+            }
             Cue::Turn => self.turn(rt, out),
             Cue::Due => self.hand_due(out),
             Cue::Kept { chapter } => self.note_kept(rt.alloc(), out, chapter),

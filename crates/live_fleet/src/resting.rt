@@ -5,7 +5,7 @@ ghost use Rattle.std.specs.declared.alloc.Global.{Global};
 ghost use Rattle.live_fleet.specs.declared.rest.Rest.TheVariants.{Nothing, Ticking};
 ghost use Rattle.live_fleet.specs.Out.{out_of};
 ghost use Rattle.live_fleet.specs.Party.{resting};
-ghost use Rattle.live_fleet.specs.Resting.{KeptIn, ListsOn, SaysOn, line_of};
+ghost use Rattle.live_fleet.specs.Resting.{KeptIn, ListsOn, SaysOn, last_turn, line_of};
 ghost use Rattle.live_fleet.specs.Turning.{SaysOrNot};
 
 use crate::answering::{answer, answer_with, mark_in, marked_text};
@@ -86,6 +86,15 @@ pub(crate) fn set_left(speaker: &mut Speaker, turns: u32)
 {
     if let Rest::Ticking { left, .. } = &mut speaker.rest {
         *left = turns;
+    }
+}
+
+/// Lets no more than one be made of the turns that are left.
+pub(crate) fn hasten(speaker: &mut Speaker)
+    ensures { speaker.new ≡ resting speaker.old (last_turn speaker.old.rest) }
+{
+    if let Rest::Ticking { left, .. } = &mut speaker.rest {
+        *left = (*left).min(1);
     }
 }
 

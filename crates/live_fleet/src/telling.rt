@@ -1,10 +1,11 @@
 //! What clients are told unasked: their notices.
 
-ghost use Rattle.std.specs.Prelude.{◌≡◌, ◌≤◌, ◌<◌, ◌+◌, ◌++◌, ℕ, List, Ok, true, false, length, slice_get, slice_set, OnOk, IfOk, vec_len};
+ghost use Rattle.std.specs.Prelude.{◌≡◌, ◌≤◌, ◌<◌, ◌+◌, ◌++◌, ◌↔◌, ℕ, List, Ok, true, false, length, slice_get, slice_set, IsTrue, OnOk, IfOk, vec_len};
 ghost use Rattle.fleet_text.specs.Output.{notice_line};
+ghost use Rattle.fleet_world.specs.Keeps.{talk};
 ghost use Rattle.live_fleet.specs.Act.{Act};
 ghost use Rattle.live_fleet.specs.Out.{IsFull, out_of, text_at};
-ghost use Rattle.live_fleet.specs.Telling.{TellsAll, collected_in, TellsClients, TellsNext, TellsOne, TellsTo, TellsWhole};
+ghost use Rattle.live_fleet.specs.Telling.{HasNoNotice, TellsAll, collected_in, TellsClients, TellsNext, TellsOne, TellsTo, TellsWhole};
 ghost use Rattle.live_fleet.specs.Went.{at_of};
 
 use crate::length::note_length;
@@ -13,7 +14,7 @@ use crate::outboxes::Outboxes;
 use crate::speaker::{Clients, Speaker};
 use fleet_book::{Event, Notice};
 use fleet_text::notice_line;
-use fleet_world::Reply;
+use fleet_world::{Reply, Session};
 use std::alloc::{Alloc, AllocError, Global};
 
 /// More lines than one text may have.
@@ -58,7 +59,18 @@ fn say_notice(
     out.say(to, line.as_bytes())
 }
 
-/// Tells a client's next notice.
+/// Whether no notice waits for a client, neither in its mailbox nor in its outlet.
+fn has_no_notice(session: &Session, client: u32) -> bool
+    requires { 0 ≤ session.now.world.core.number }
+    ensures { IsTrue result ↔ HasNoNotice (talk session.now) client }
+{
+    if client as usize >= session.waiting.len() {
+        return true;
+    }
+    session.waiting[client as usize].outlet_len() == 0 && session.world.pending_count(client) == 0
+}
+
+/// Tells a client's next notice. A client for whom none waits is passed over.
 fn tell_next<R: Alloc<A = Global>>(
     rt: &R,
     fleet: &mut OpenFleet,
@@ -73,6 +85,9 @@ fn tell_next<R: Alloc<A = Global>>(
 {
     if out.is_full(to) {
         return Ok(Told::Full);
+    }
+    if has_no_notice(&fleet.session, client) {
+        return Ok(Told::All);
     }
     let _given = fleet.session.step(rt, Event::Give(client))?;
     match collected(fleet.session.step(rt, Event::Collect(client))?) {

@@ -1,3 +1,2 @@
 pub mod Figuring
 pub mod Keeping
-pub mod Telling

@@ -1,13 +1,9 @@
 pub mod Counts
 pub mod Demand
-pub mod Due
 pub mod Figures
 pub mod Histogram
 pub mod Kept
 pub mod Notices
-pub mod Onward
-pub mod Outbox
 pub mod Period
-pub mod Posted
 pub mod Said
 pub mod Size

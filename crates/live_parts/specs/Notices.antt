@@ -1,7 +1,5 @@
 -- How many notices were told.
-use Rattle.std.specs.Prelude.{◌≡◌, ℕ, ◌+◌, ◌-◌, ◌^◌, ◌<◌, min, slice_index, slice_set}
-use Rattle.fleet_book.specs.declared.notice.Notice.{Notice}
-use Rattle.fleet_book.specs.declared.notice.Notice.TheVariants as notice
+use Rattle.std.specs.Prelude.{ℕ, ◌+◌, ◌-◌, ◌^◌, min, slice_index, slice_set}
 use Rattle.fleet_book.specs.declared.verdict.Verdict.{Verdict}
 use Rattle.fleet_book.specs.declared.verdict.Verdict.TheVariants as verdict
 use Rattle.live_parts.specs.declared.notices.Notices.{Notices}
@@ -34,12 +32,10 @@ capped a b = min (a + b) (2 ^ 64 - 1)
 abbrev pub open_count : ℕ → Notices → ℕ
 open_count before n = capped before (told_count n (verdict.Accepted 0)) - told_count n verdict.Withdrawn - n.arrived
 
--- with one more notice
-abbrev pub counted : Notices → Notice → Notices
-counted n (notice.Verdict seq order_no v) = record n { verdicts = slice_set n.verdicts (kind v) (capped (told_count n v) 1) }
-counted n (notice.Arrived seq number robot cell tick stamp) = record n { arrived = capped n.arrived 1 }
+-- with one more verdict
+abbrev pub with_verdict : Notices → Verdict → Notices
+with_verdict n v = record n { verdicts = slice_set n.verdicts (kind v) (capped (told_count n v) 1) }
 
--- the third counts what the first and the second count
-pub record AreTogether (a b all : Notices) : Type 0 where
-  pub verdicts : (k : ℕ) → k < 13 → slice_index all.verdicts k ≡ capped (slice_index a.verdicts k) (slice_index b.verdicts k)
-  pub arrived : all.arrived ≡ capped a.arrived b.arrived
+-- with this many more arrivals
+abbrev pub with_arrivals : Notices → ℕ → Notices
+with_arrivals n arrivals = record n { arrived = capped n.arrived arrivals }

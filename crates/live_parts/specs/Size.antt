@@ -1,6 +1,7 @@
 -- About how long a chapter's text is.
 use Rattle.std.specs.Prelude.{ℕ, ◌+◌, ◌-◌, ◌*◌, ◌^◌, length, decimal, min}
 use Rattle.live_parts.specs.Notices.{capped}
+use Rattle.live_parts.specs.declared.size.ChapterSize.{ChapterSize}
 
 -- a product that stops at the greatest number of 64 bits
 abbrev pub product : ℕ → ℕ → ℕ
@@ -20,3 +21,15 @@ arrived_bytes arrived = arrived * 104
 
 abbrev pub order_bytes : ℕ → ℕ
 order_bytes orders = orders * 96
+
+-- a chapter that begins with this many errands in the queues
+abbrev pub begun : ChapterSize → ℕ → ChapterSize
+begun s errands = record s { bytes = capped s.least (product errands 48) }
+
+-- with a tick in which this many errands were done
+abbrev pub with_tick : ChapterSize → ℕ → ChapterSize
+with_tick s arrived = record s { bytes = capped (capped s.bytes s.tick) (arrived_bytes arrived) }
+
+-- with this many more orders
+abbrev pub with_orders : ChapterSize → ℕ → ChapterSize
+with_orders s orders = record s { bytes = capped s.bytes (order_bytes orders) }

@@ -5,9 +5,6 @@
 pub struct LiveSettings {
     /// The microseconds between two turns; `None` if turns are made only when a line asks for one.
     pub period: Option<u32>,
-    /// How many tickers keep the fleet in turn where there is a period: with two, one keeps it while the other keeps a
-    /// chapter.
-    pub tickers: u32,
     /// The microseconds after which a chapter is handed out at the latest; `None` if that is done only where one is
     /// full or a line asks for it.
     pub keep_every: Option<u32>,

@@ -8,8 +8,8 @@ use crate::notices::Notices;
 use crate::tally::Tally;
 use crate::timing::Timing;
 use crate::verdicts::add_verdicts;
+use crate::waits::WaitReport;
 use fleet_core::QueueReport;
-use fleet_office::WaitReport;
 use std::alloc::{AllocError, Global};
 use std::fmt::Write;
 

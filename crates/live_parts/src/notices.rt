@@ -1,9 +1,9 @@
 //! How many notices were told, by kind.
 
 ghost use Rattle.std.specs.Prelude.{◌≡◌, ◌<◌};
-ghost use Rattle.live_parts.specs.Notices.{AreTogether, counted, kind, open_count, told_count};
+ghost use Rattle.live_parts.specs.Notices.{kind, open_count, told_count, with_arrivals, with_verdict};
 
-use fleet_book::{Notice, Verdict};
+use fleet_book::Verdict;
 
 /// How many kinds of verdicts there are.
 const KINDS: usize = 13;
@@ -44,27 +44,19 @@ impl Notices {
         arrived: 0,
     };
 
-    /// Counts a notice that was told.
-    pub(crate) fn count(&mut self, notice: Notice)
-        ensures { self.new ≡ counted self.old notice }
+    /// Counts a verdict.
+    pub fn count_verdict(&mut self, verdict: Verdict)
+        ensures { self.new ≡ with_verdict self.old verdict }
     {
-        match notice {
-            Notice::Verdict { verdict, .. } => {
-                let place = place_of(verdict);
-                self.verdicts[place] = self.verdicts[place].saturating_add(1);
-            }
-            Notice::Arrived { .. } => self.arrived = self.arrived.saturating_add(1),
-        }
+        let place = place_of(verdict);
+        self.verdicts[place] = self.verdicts[place].saturating_add(1);
     }
 
-    /// Adds others.
-    pub fn add(&mut self, others: &Notices)
-        ensures { AreTogether self.old others.now self.new }
+    /// Counts arrivals.
+    pub fn count_arrivals(&mut self, arrivals: u32)
+        ensures { self.new ≡ with_arrivals self.old arrivals }
     {
-        for place in 0..KINDS {
-            self.verdicts[place] = self.verdicts[place].saturating_add(others.verdicts[place]);
-        }
-        self.arrived = self.arrived.saturating_add(others.arrived);
+        self.arrived = self.arrived.saturating_add(u64::from(arrivals));
     }
 
     /// How many verdicts of this kind were told.

@@ -1,8 +1,7 @@
 //! About how long the text of the chapter is that is being filled.
 
-ghost use Rattle.std.specs.Prelude.{◌≡◌, ◌≤◌, ◌*◌, ◌↔◌, IfOk, IsTrue};
-ghost use Rattle.live_parts.specs.Notices.{capped};
-ghost use Rattle.live_parts.specs.Size.{arrived_bytes, opening_bytes, order_bytes, product, tick_bytes};
+ghost use Rattle.std.specs.Prelude.{◌≡◌, ◌≤◌, ◌↔◌, IfOk, IsTrue};
+ghost use Rattle.live_parts.specs.Size.{begun, opening_bytes, tick_bytes, with_orders, with_tick};
 
 use std::alloc::{AllocError, Global};
 
@@ -57,14 +56,14 @@ impl ChapterSize {
 
     /// A chapter begins, with this many errands in the queues.
     pub fn begin(&mut self, errands: u64)
-        ensures { self.new ≡ record self.old { bytes = capped self.old.least (product errands 48) } }
+        ensures { self.new ≡ begun self.old errands }
     {
         self.bytes = self.least.saturating_add(errands.saturating_mul(ERRAND));
     }
 
     /// A tick is added, in which this many errands were done.
     pub fn add_tick(&mut self, arrived: u32)
-        ensures { self.new ≡ record self.old { bytes = capped (capped self.old.bytes self.old.tick) (arrived_bytes arrived) } }
+        ensures { self.new ≡ with_tick self.old arrived }
     {
         let arrivals = u64::from(arrived) * ARRIVAL;
         self.bytes = self
@@ -75,7 +74,7 @@ impl ChapterSize {
 
     /// Orders are added.
     pub fn add_orders(&mut self, orders: u32)
-        ensures { self.new ≡ record self.old { bytes = capped self.old.bytes (order_bytes orders) } }
+        ensures { self.new ≡ with_orders self.old orders }
     {
         self.bytes = self.bytes.saturating_add(u64::from(orders) * ORDER);
     }

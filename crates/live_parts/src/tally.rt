@@ -1,9 +1,9 @@
 //! What the keeper counts, for a line each minute.
 
-ghost use Rattle.std.specs.Prelude.{◌≡◌, ◌+◌, ◌<◌, ◌≤◌, ◌^◌, max, IfOk, string_bytes};
-ghost use Rattle.live_parts.specs.Counts.{counts_line, counts_text, wait_text};
+ghost use Rattle.std.specs.Prelude.{◌≡◌, IfOk, string_bytes};
+ghost use Rattle.live_parts.specs.Counts.{counts_line, counts_text, wait_text, with_lateness, with_orders, with_tick};
 
-use fleet_office::WaitReport;
+use crate::waits::WaitReport;
 use std::alloc::{AllocError, Global};
 
 /// What happened since the last line.
@@ -37,24 +37,21 @@ impl Tally {
 
     /// Counts a tick.
     pub fn count_tick(&mut self)
-        ensures { self.old.ticks + 1 < 2 ^ 64 → self.new ≡ record self.old { ticks = self.old.ticks + 1 } }
+        ensures { self.new ≡ with_tick self.old }
     {
         self.ticks = self.ticks.saturating_add(1);
     }
 
     /// Counts orders.
     pub fn count_orders(&mut self, orders: u32)
-        ensures { self.old.orders + orders < 2 ^ 64 → self.new ≡ record self.old { orders = self.old.orders + orders } }
+        ensures { self.new ≡ with_orders self.old orders }
     {
         self.orders = self.orders.saturating_add(u64::from(orders));
     }
 
     /// Notes how many microseconds after its deadline a turn begins.
     pub fn note_lateness(&mut self, micros: u64, period: u64)
-        ensures late { period ≤ micros → self.old.late + 1 < 2 ^ 64 → self.new.late ≡ self.old.late + 1 }
-        ensures early { micros < period → self.new.late ≡ self.old.late }
-        ensures latest { self.new.latest ≡ max self.old.latest micros }
-        ensures others { self.new ≡ record self.old { late = self.new.late; latest = self.new.latest } }
+        ensures { self.new ≡ with_lateness self.old micros period }
     {
         if micros >= period {
             self.late = self.late.saturating_add(1);

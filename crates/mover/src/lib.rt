@@ -2,7 +2,6 @@
 //! blind aisles arrive too.
 #![tactic(auto)]
 
-mod changes;
 mod manner;
 mod mover;
 mod turn_fleet;

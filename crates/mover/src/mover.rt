@@ -1,6 +1,6 @@
 //! A planner of a chosen manner.
 
-ghost use Rattle.std.specs.Prelude.{◌≡◌, ◌↔◌, ◌<◌, ◌≤◌, ◌+◌, ◌^◌, ℕ, true, false, IsTrue, length, map, IfOk, OnOk, OnErr};
+ghost use Rattle.std.specs.Prelude.{◌≡◌, ◌<◌, ◌≤◌, ◌+◌, ◌^◌, ℕ, true, false, length, map, IfOk, OnOk, OnErr};
 ghost use Rattle.fleet_field.specs.FieldCache.{bytes_kept};
 ghost use Rattle.fleet_field.specs.Store.{Keeps};
 ghost use Rattle.fleet_grid.specs.Floor.{Floor, IsNeighbour};
@@ -15,10 +15,9 @@ ghost use Rattle.mover.specs.Moving.{HasTurns, IsManner, IsNewMover, IsTickBy};
 use crate::manner::Manner;
 use crate::turn_fleet::TurnFleet;
 use fleet_book::{Order, Verdict};
-use fleet_bridge::first_bridge;
 use fleet_grid::Grid;
 use fleet_hooks::TieHook;
-use fleet_planner::Planner;
+use fleet_planner::{Planner, has_no_bridge};
 use fleet_state::FleetState;
 use fleet_turns::NoTurns;
 use std::alloc::{AllocError, Allocator, Global};
@@ -231,11 +230,4 @@ fn takes_turns<A: Allocator + Copy>(
         Manner::Plain => Ok(false),
         Manner::Turns => Ok(!has_no_bridge(alloc, grid)?),
     }
-}
-
-/// Whether the map has no bridge.
-fn has_no_bridge<A: Allocator + Copy>(alloc: A, grid: &Grid<A>) -> Result<bool, AllocError>
-    ensures { IfOk result (λ none. IsTrue none ↔ IsBridgeless (IsNeighbour grid.now)) }
-{
-    Ok(first_bridge(alloc, grid)?.is_none())
 }

@@ -13,19 +13,15 @@ ghost use Rattle.turns_law.specs.Turns.{AreTurns};
 ghost use Rattle.mover.specs.Moving.{AreTurnsOf, IsTickBy};
 ghost use Rattle.mover.specs.inside.Turning.{IsNewFleet, planner_of, turn_planner};
 
-use crate::changes::{first_goal, put_changes};
 use fleet_book::{Order, Verdict};
 use fleet_field::FieldCache;
 use fleet_grid::Grid;
 use fleet_hooks::TieHook;
-use fleet_planner::GoalChange;
+use fleet_planner::{GoalChange, KEPT_BYTES, first_goal, put_turns};
 use fleet_state::FleetState;
 use fleet_turns::{Fleet, NoTurns, TurnPlanner};
 use std::alloc::{AllocError, Allocator, Global};
 use std::marker::Model;
-
-/// The bytes of fields that are kept where nothing else is said: 256 MiB, as by a plain planner.
-const KEPT_BYTES: usize = 256 << 20;
 
 /// A planner of turns, and the fields of goals that no robot has any more.
 #[derive(Drop)]
@@ -186,7 +182,7 @@ impl<A: Allocator + Copy> TurnFleet<A> {
         ensures keeps { Keeps grid.now self.new.kept }
         ensures refused { OnErr result (self.new.aims ≡ self.old.aims) }
     {
-        put_changes(state, to, &mut self.changes);
+        put_turns(state, to, &mut self.changes);
         let changes = self.changes.as_slice();
         self.planner.turn(&mut self.cache, grid, to, changes)
     }

@@ -139,10 +139,13 @@ class CallsTest(OnRing):
             for _ in range(40):
                 signal.setitimer(signal.ITIMER_REAL, 0.0001 + 0.0005 * stopped % 0.01)
                 try:
-                    fleet.tick(200)
+                    try:
+                        fleet.tick(200)
+                    finally:
+                        # The alarm may also come after the call: it is stopped where its exception is caught.
+                        signal.setitimer(signal.ITIMER_REAL, 0)
                 except KeyboardInterrupt:
                     stopped += 1
-                signal.setitimer(signal.ITIMER_REAL, 0)
                 # Each call is made whole or not at all, and the next one has its own answer.
                 tick = fleet.look().tick
                 self.assertIn(tick - done, (0, 200))

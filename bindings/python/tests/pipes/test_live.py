@@ -79,9 +79,9 @@ class LiveTest(unittest.TestCase):
                     fleet.go(0, 4).accepted(10)
                 self.assertEqual((fleet.look().tick, fleet.look().entries), (0, 2))
 
-    def test_two_tickers(self):
+    def test_turns_go_on_while_chapters_are_written(self):
         ticks = []
-        with self.fleet([0, 8], period_ms=1, tickers=2, traces=self.folder.name, chapter=20, on_tick=lambda tick, _: ticks.append(tick)) as fleet:
+        with self.fleet([0, 8], period_ms=1, traces=self.folder.name, chapter=20, on_tick=lambda tick, _: ticks.append(tick)) as fleet:
             for cell in (1, 2, 5, 3) * 5:
                 fleet.go(0, cell).arrived(10)
         self.assertEqual(ticks, list(range(1, len(ticks) + 1)))
@@ -115,8 +115,8 @@ class LiveTest(unittest.TestCase):
             fleet.look()
 
     def test_words(self):
-        for words in (["--robots", "0;8"], ["--robots", "0", "--period", "0ms"], ["--robots", "0", "--period", "20"], ["--robots", "0", "--clients", "x"], ["--robots", "0", "--tickers", "3"],
-                      ["--robots", "0", "--tickers", "0"], ["--robots", "0", "--clients", "0"], ["--robots", "0", "--clients", "65"], ["--robots", "0", "--traces", ""]):
+        for words in (["--robots", "0;8"], ["--robots", "0", "--period", "0ms"], ["--robots", "0", "--period", "20"], ["--robots", "0", "--clients", "x"], ["--robots", "0", "--tickers", "2"],
+                      ["--robots", "0", "--clients", "0"], ["--robots", "0", "--clients", "65"], ["--robots", "0", "--traces", ""]):
             status, output, complaint = self.run_lines("", *words)
             self.assertEqual((status, output), (2, ""))
             self.assertTrue(complaint.startswith("error: "))
@@ -282,6 +282,20 @@ class LiveTest(unittest.TestCase):
             self.assertIn("collected 0 1 verdict 1 accepted 1", lines)
             self.assertEqual(lines[-1], f"ended {len([entry for entry in entries if entry[0] == 'tick'])}")
             shutil.rmtree(folder)
+
+    def test_a_look_before_a_full_dead_end(self):
+        """A corridor of four cells: robot 1 stands on its last cell, to which robot 0 is sent."""
+        with tempfile.TemporaryDirectory() as folder:
+            path = os.path.join(folder, "corridor.map")
+            with open(path, "w") as file:
+                file.write("type octile\nheight 1\nwidth 4\nmap\n....\n")
+            words = [PROGRAM, "live", "--robots", "1,3", path]
+            done = subprocess.run(words, input="look\npost 0 go 0 3\ntick 2\nlook\n", capture_output=True, text=True, timeout=60)
+        looks = [line for line in done.stdout.splitlines() if line.startswith("look ")]
+        self.assertEqual(looks, [
+            "look tick 0 chapter 0 entries 0 idle within 0 at 1 3",
+            "look tick 2 chapter 0 entries 3 busy eldest 0 blocked 3 at 2 3",
+        ])
 
     def test_quit_ends_a_tick_that_takes_long(self):
         with subprocess.Popen([PROGRAM, "live", "--robots", "0,8", self.map], stdin=subprocess.PIPE, stdout=subprocess.PIPE) as process:

@@ -137,6 +137,17 @@ class ServiceTest(KeptChaptersTest):
 
     # ---- while a tick is made
 
+    def test_the_limit_of_waits_on_a_map_with_bridges(self):
+        """Two robots on twelve floor cells: two times eleven ticks, where all errands have to go to roomy cells."""
+        self.map.write_text("type octile\nheight 3\nwidth 7\nmap\n.......\n.@@.@@@\n...@@@@\n")
+        for more, limit in (["--roomy"], "22"), ([], None):
+            figures = self.path / f"figures{len(more)}"
+            process = self.start(PROGRAM, "live", "--robots", "0,7", "--period", "5ms", "--metrics", figures, *more, self.map, stdin=subprocess.PIPE)
+            self.assertTrue(until(lambda: figures.exists() and "fleet_ticks_total" in figures_in(figures)))
+            self.assertEqual(figures_in(figures).get("fleet_wait_limit_ticks"), limit)
+            process.stdin.close()
+            self.assertEqual(process.wait(), 0)
+
     def many_robots(self):
         """The cells of 512 robots on a map of 64 by 64 cells, which is written."""
         self.map.write_text("type octile\nheight 64\nwidth 64\nmap\n" + ("." * 64 + "\n") * 64)

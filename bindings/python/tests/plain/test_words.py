@@ -20,7 +20,7 @@ HEADER = (TOP / "bindings" / "c" / "nashirudder.h").read_text()
 BARE = re.sub(r"/\*.*?\*/", " ", HEADER, flags=re.S)
 
 KINDS = {
-    "uint8_t": ctypes.c_uint8, "uint32_t": ctypes.c_uint32, "uint64_t": ctypes.c_uint64, "size_t": ctypes.c_size_t,
+    "uint8_t": ctypes.c_uint8, "uint16_t": ctypes.c_uint16, "uint32_t": ctypes.c_uint32, "uint64_t": ctypes.c_uint64, "size_t": ctypes.c_size_t,
     "bool": ctypes.c_bool, "void *": ctypes.c_void_p, "char": ctypes.c_char, "nashirudder_code": ctypes.c_uint32,
     "nashirudder_verdict": ctypes.c_uint32, "nashirudder_kind": ctypes.c_uint32,
     "nashirudder_state": ctypes.c_uint32,
@@ -31,6 +31,7 @@ STRUCTS = {
     "arrival": calls.CArrival, "edge": calls.CEdge, "map": calls.CMap, "shape": calls.CShape,
     "errand": calls.CErrand, "standing": calls.CStanding, "account": calls.CAccount, "chapter": calls.CChapter,
     "execution": calls.CExecution, "move": calls.CMove, "whereabouts": calls.CWhereabouts, "progress": calls.CProgress,
+    "shield": calls.CShield,
 }
 
 
@@ -91,7 +92,7 @@ class HeaderTest(unittest.TestCase):
         found = {int(number): told for number, told in re.findall(r'^ +(\d+) => (?:\{\s*)?"(.*)"', text, re.M)}
         # The last arm of each function is for the greatest number of its kind.
         rest = re.findall(r'^fn \w+.*?\b_ => (?:\{\s*)?"(.*?)"', text, re.M | re.S)
-        found.update(zip((18, 14, 34, 49, 57, 66), rest))
+        found.update(zip((18, 14, 34, 49, 57, 66, 77), rest))
         self.assertEqual(set(found), {int(code) for code in names.Code})
         for word, sentence in names.SENTENCES.items():
             if word in names.CODE_OF:

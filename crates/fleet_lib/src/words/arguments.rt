@@ -50,3 +50,10 @@ pub(crate) const RESUME: Argument<'static> = Argument {
     kind: Kind::Flag,
     help: "Go on from the last chapter in the folder of --traces; begin anew if it has none",
 };
+
+/// The form in which a plan is read.
+pub(crate) const FORM: Argument<'static> = Argument {
+    name: "form",
+    kind: Kind::Value("FORM"),
+    help: "Read the plan in this form, whatever it begins with: lines (with a head), bare (lines of cells without a head), agents, table, yaml, lorr, or lorr-planner (the planner's paths)",
+};

@@ -4,7 +4,7 @@ ghost use Rattle.std.specs.Prelude.{◌≡◌, IfOk};
 ghost use Rattle.clap.specs.Words.{found_of, rows_of};
 ghost use Rattle.fleet_lib.specs.Asked.{IsCheck, IsCountAsked, form_in, form_named};
 
-use crate::words::arguments::MAP;
+use crate::words::arguments::{FORM, MAP};
 use clap::ArgMatches;
 use command_words::{Argument, Kind, Word, has_flag, some_word_for, word_for};
 use fleet_plans::TextForm;
@@ -46,11 +46,7 @@ pub(crate) const CHECK: Word<'static> = Word {
             kind: Kind::Flag,
             help: "Call a plan valid only if each robot ends on its goal",
         },
-        Argument {
-            name: "form",
-            kind: Kind::Value("FORM"),
-            help: "Read the plan in this form, whatever it begins with: lines (with a head), bare (lines of cells without a head), agents, table, yaml, lorr, or lorr-planner (the planner's paths)",
-        },
+        FORM,
         Argument {
             name: "goals",
             kind: Kind::Value("SCENARIO"),
@@ -94,7 +90,7 @@ fn form_named(name: &str) -> FormAsked
 }
 
 /// The form that the words name.
-fn form_in(matches: &ArgMatches<'_>) -> FormAsked
+pub(crate) fn form_in(matches: &ArgMatches<'_>) -> FormAsked
     ensures { result ≡ form_in (rows_of (found_of matches.now)) }
 {
     match matches.get_str("form") {

@@ -4,7 +4,8 @@ ghost use Rattle.std.specs.Prelude.{IfOk};
 ghost use Rattle.clap.specs.Words.{found_of, rows_of};
 ghost use Rattle.fleet_lib.specs.Asked.{IsExecute};
 
-use crate::words::arguments::MAP;
+use crate::words::arguments::{FORM, MAP};
+use crate::words::check::{FormAsked, form_in};
 use clap::ArgMatches;
 use command_words::{Argument, Kind, Word, some_word_for, word_for};
 use std::alloc::{AllocError, Global};
@@ -16,11 +17,12 @@ pub struct Execute {
     pub clearance: Option<String>,
     /// How many steps are planned at most that are not reached.
     pub ahead: Option<String>,
+    pub form: FormAsked,
     pub map: String,
     pub plan: String,
 }
 
-/// `execute [--clearance RULE] [--ahead N] MAP PLAN`.
+/// `execute [--clearance RULE] [--ahead N] [--form FORM] MAP PLAN`.
 pub(crate) const EXECUTE: Word<'static> = Word {
     name: "execute",
     about: "Executes a plan of any planner with robots that are not in step: prints which move may begin, and reads which robots have arrived",
@@ -36,11 +38,12 @@ pub(crate) const EXECUTE: Word<'static> = Word {
             kind: Kind::Number("N"),
             help: "How many steps of the plan are looked at that are not reached by all robots; 10 if not given",
         },
+        FORM,
         MAP,
         Argument {
             name: "PLAN",
             kind: Kind::File,
-            help: "A plan in any form that `fleet check` reads without --form",
+            help: "A plan in any form that `fleet check` reads",
         },
     ],
 };
@@ -56,6 +59,7 @@ pub(crate) fn execute_in(alloc: Global, matches: &ArgMatches<'_>) -> Result<Exec
     Ok(Execute {
         clearance,
         ahead,
+        form: form_in(matches),
         map,
         plan,
     })

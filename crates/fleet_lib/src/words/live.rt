@@ -71,7 +71,7 @@ pub(crate) const LIVE: Word<'static> = Word {
         Argument {
             name: "tickers",
             kind: Kind::Value("N"),
-            help: "1 or 2 tickers, 1 if not given: with 2, turns go on while a full chapter is written",
+            help: "No word any more: turns go on while a chapter is written",
         },
         Argument {
             name: "client",

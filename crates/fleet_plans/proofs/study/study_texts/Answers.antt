@@ -1,23 +1,9 @@
--- What is said on a map, and where there is none.
-use Rattle.std.proofs.Common.{◌≡◌, refl, subst}
-use Rattle.fleet_map.specs.Grammar.{view, map_of}
+-- The form is that of the text.
+use Rattle.std.proofs.Common.{subst}
+use Rattle.std.specs.Prelude.{IfOk}
 use Rattle.fleet_plans.specs.declared.form.TextForm.{TextForm}
-use Rattle.fleet_plans.specs.Goals.{Nothing}
-use Rattle.fleet_plans.specs.Study.{IsFormStudy, IsStudy, without_map, with_map}
-use Rattle.fleet_plans.proofs.Answered.{map_fails}
-use Rattle.fleet_plans.proofs.Givings.{if_ok_both}
+use Rattle.fleet_plans.specs.Study.{IsStudyBy}
 use Rattle.fleet_plans.proofs.study.study_texts.Goals as goal
 
-pub returns-in-Ok : goal.returns-in-Ok
-returns-in-Ok c =
-    let m = view c.in-Ok.map in
-    let text = c.args.text.now in
-    if_ok_both c.study_on.result (λ s. s.width ≡ m.width) (λ s. IsFormStudy Nothing m c.form_of.result text s.answer s.places) (IsStudy c.args.map.now text)
-    (λ s width is. with_map m c.in-Ok.ensures.exact width (subst (λ (f : TextForm). IsFormStudy Nothing m f text s.answer s.places) c.form_of.ensures is))
-    c.study_on.ensures.width c.study_on.ensures.study
-
-pub returns-in_ok-fault-in-Err : goal.returns-in_ok-fault-in-Err
-returns-in_ok-fault-in-Err c =
-    let named = c.in_ok-fault-in-Err.fault in
-    let e = c.in_ok-fault-in-Err.ensures in
-    without_map named (map_fails c.in-Err.fault named (map_of c.args.map.now) c.in-Err.ensures.exact e.same e.named) refl
+pub returns : goal.returns
+returns c = subst (λ (f : TextForm). IfOk c.study_form.result (λ s. IsStudyBy f c.args.map.now c.args.text.now s)) c.form_of.ensures c.study_form.ensures

@@ -2,8 +2,11 @@
 use Rattle.std.proofs.Common.{◌≡◌, ◌∙◌, ◌≤◌, ◌<◌, ◌+◌, ◌-◌, ◌++◌, ℕ, Bool, List, [], length, refl, sym, subst, arith}
 use Rattle.live_fleet.specs.Act.{Act}
 use Rattle.live_fleet.specs.Went.{At, at_of}
-use Rattle.live_fleet.proofs.Steps.{taking-last, taking-many, taking-more, taking-none}
+use Rattle.live_fleet.proofs.Steps.{takes-none, taking-last, taking-many, taking-more, taking-none}
 use Rattle.live_fleet.proofs.taking.take_client.Goals as goal
+
+pub returns-then-has_no_order-clause-ok : goal.returns-then-has_no_order-clause-ok
+returns-then-has_no_order-clause-ok g c = takes-none c.args.most c.args.client (at_of c.args.fleet.now c.args.out.now) (c.has_no_order.ensures.0 c.if-has_no_order.true)
 
 pub loop-init : goal.loop-init
 loop-init g c = record { taking = ([], taking-none c.args.client (at_of c.args.fleet.now c.args.out.now)); count = refl }

@@ -10,11 +10,14 @@ use Rattle.fleet_world.specs.Keeps.{talk}
 use Rattle.fleet_world.specs.Talk.{TalkStep}
 use Rattle.live_fleet.specs.Out.{out_of, text_at}
 use Rattle.live_fleet.specs.Went.{At, at_of}
-use Rattle.live_fleet.proofs.Tells.{not-full, tells-all, tells-full, tells-one, was-collected}
+use Rattle.live_fleet.proofs.Tells.{not-full, tells-all, tells-full, tells-none, tells-one, was-collected}
 use Rattle.live_fleet.proofs.telling.tell_next.Goals as goal
 
 pub returns-then-is_full-clause-ok : goal.returns-then-is_full-clause-ok
 returns-then-is_full-clause-ok g c = tells-full c.args.to c.args.client (at_of c.args.fleet.now c.args.out.now) (c.is_full.ensures.0 c.if-is_full.true)
+
+pub returns-then-has_no_notice-clause-ok : goal.returns-then-has_no_notice-clause-ok
+returns-then-has_no_notice-clause-ok g c = tells-none c.args.to c.args.client (at_of c.args.fleet.now c.args.out.now) (c.has_no_notice.ensures.0 c.if-has_no_notice.true)
 
 pub returns-in_ok-say_notice-in-Some-clause-ok : goal.returns-in_ok-say_notice-in-Some-clause-ok
 returns-in_ok-say_notice-in-Some-clause-ok g c =

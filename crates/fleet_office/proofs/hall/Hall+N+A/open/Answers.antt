@@ -3,9 +3,9 @@ use Rattle.std.proofs.lemmas.List.{length-replicate}
 use Rattle.fleet_core.specs.Core.{World, opened_world}
 use Rattle.fleet_core.specs.Hooks.{laws_of}
 use Rattle.fleet_core.specs.OpeningFaults.{IsRefused}
-use Rattle.fleet_history.specs.History.{clients, clock, unknown_client}
+use Rattle.fleet_history.specs.History.{clients, unknown_client}
 use Rattle.fleet_history.specs.declared.history.ClientState.{ClientState}
-use Rattle.fleet_office.specs.Since.{IsUnused}
+use Rattle.fleet_office.specs.inside.Openings.{IsUnused}
 use Rattle.fleet_office.proofs.Opening.{opened-unused}
 use Rattle.fleet_office.proofs.Over.{refused-err, refused-ok}
 use Rattle.fleet_office.proofs.hall.Hall+N+A.open.Goals as goal
@@ -45,7 +45,7 @@ pub returns-in-Ok-clause-clients : goal.returns-in-Ok-clause-clients
 returns-in-Ok-clause-clients g c = c.over.ensures.clients
 
 pub returns-in-Ok-clause-ticker : goal.returns-in-Ok-clause-ticker
-returns-in-Ok-clause-ticker g c = c.over.ensures.ticker ∙ ap (λ (w : World g.row.A.Denot). record { count = clock w.history; parts = 65536 }) c.in-Ok.ensures.ok
+returns-in-Ok-clause-ticker g c = c.over.ensures.ticker
 
 pub returns-in-Ok-clause-refused : goal.returns-in-Ok-clause-refused
 returns-in-Ok-clause-refused g c fault named =

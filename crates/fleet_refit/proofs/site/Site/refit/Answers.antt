@@ -1,6 +1,8 @@
 -- What changes come to, or why they were not made.
-use Rattle.std.proofs.Common.{◌≡◌, ◌∙◌, sym}
+use Rattle.std.proofs.Common.{◌∙◌}
 use Rattle.std.proofs.lemmas.Result.{IfOk-weaker, IfErr-weaker}
+use Rattle.fleet_refit.proofs.Chained.{reached-safe}
+use Rattle.fleet_refit.proofs.Opened.{refit-opened}
 use Rattle.fleet_refit.proofs.Refitted.{reached, refitted, same-map, unopened}
 use Rattle.fleet_refit.proofs.site.Site.refit.Goals as goal
 
@@ -13,6 +15,15 @@ returns-clause-done g c =
     IfOk-weaker c.handed.result _ _
     (λ r e. refitted c.args.self.now c.settled.new.self c.args.changes.now c.in-Ok.grid c.settled.new.dropped.items r on
     (c.in-Ok.ensures.grid ∙ same-map c.args.self.now c.settled.new.self c.args.changes.now c.settled.new.dropped.items on.changed on.seats on.last on.is on.settled) e) c.handed.ensures.handed
+
+pub returns-clause-accounted : goal.returns-clause-accounted
+returns-clause-accounted g c = IfOk-weaker c.handed.result _ _ (λ r e. (reached-safe c.args.self.now r.site c.args.changes.now r.dropped.items e.reached).accounted) (returns-clause-done g c)
+
+pub returns-clause-in_order : goal.returns-clause-in_order
+returns-clause-in_order g c = IfOk-weaker c.handed.result _ _ (λ r e. (reached-safe c.args.self.now r.site c.args.changes.now r.dropped.items e.reached).in_order) (returns-clause-done g c)
+
+pub returns-clause-opening : goal.returns-clause-opening
+returns-clause-opening g c = IfOk-weaker c.handed.result _ _ (λ r e. refit-opened c.args.self.now c.args.changes.now r e) (returns-clause-done g c)
 
 pub returns-clause-refused : goal.returns-clause-refused
 returns-clause-refused g c =

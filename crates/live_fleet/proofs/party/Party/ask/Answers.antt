@@ -15,3 +15,10 @@ returns-in-Chapter g c = record {
       (acts : List Act) × Grants c.args.place.to sp (under c.args.place.line.mark) w (stage_of c.args.self.now c.args.out.now) acts (stage_of c.ask_chapter.new.self c.ask_chapter.new.out)))
       (sym c.in-Chapter.is) c.ask_chapter.ensures.ok;
 }
+
+pub returns-in-Look : goal.returns-in-Look
+returns-in-Look g c = record {
+  ok = subst (λ (w : Wanted). OnOk c.ask_look.result ((sp : Speaker) → slice_get c.args.self.now.speakers.items c.args.place.to ≡ Some sp →
+      (acts : List Act) × Grants c.args.place.to sp (under c.args.place.line.mark) w (stage_of c.args.self.now c.args.out.now) acts (stage_of c.ask_look.new.self c.ask_look.new.out)))
+      (sym c.in-Look.is) c.ask_look.ensures.ok;
+}

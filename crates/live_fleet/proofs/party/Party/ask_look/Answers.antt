@@ -1,7 +1,7 @@
 -- The line of a look was said.
 use Rattle.std.proofs.Common.{List, ℕ, sym, subst}
 use Rattle.std.proofs.lemmas.Result.{on_ok_weaker}
-use Rattle.live_fleet.specs.Look.{IsLook}
+use Rattle.fleet_talk.specs.Look.{IsLook}
 use Rattle.live_fleet.proofs.party.Party.ask_look.Goals as goal
 
 pub returns : goal.returns

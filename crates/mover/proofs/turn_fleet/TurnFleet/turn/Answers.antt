@@ -13,14 +13,14 @@ use Rattle.mover.specs.inside.Turning.{TurnFleet, planner_of}
 use Rattle.mover.proofs.Ready.{planner-for, size-kept}
 use Rattle.mover.proofs.turn_fleet.TurnFleet.turn.Goals as goal
 
-pub put_changes-requires-clause-same : goal.put_changes-requires-clause-same
-put_changes-requires-clause-same g c = c.requires.same
+pub put_turns-requires-clause-same : goal.put_turns-requires-clause-same
+put_turns-requires-clause-same g c = c.requires.same
 
-pub put_changes-requires-clause-few : goal.put_changes-requires-clause-few
-put_changes-requires-clause-few g c = omega (arith, c.requires.same, robots-few c.requires.may.is)
+pub put_turns-requires-clause-few : goal.put_turns-requires-clause-few
+put_turns-requires-clause-few g c = omega (arith, c.requires.same, robots-few c.requires.may.is)
 
-pub put_changes-requires-clause-room : goal.put_changes-requires-clause-room
-put_changes-requires-clause-room g c =
+pub put_turns-requires-clause-room : goal.put_turns-requires-clause-room
+put_turns-requires-clause-room g c =
     let may = c.requires.may in
     let a = subst (λ (f : TurnFleet). IsAimed c.args.grid.now may.history (planner_of f)) (sym c.self.view_is) may.aimed in
     omega (arith, c.requires.same, queue-count may.is, aims-count may.history c.self.inside.planner.courses a.aimed, c.self.invariant)
@@ -28,13 +28,13 @@ put_changes-requires-clause-room g c =
 pub turn-requires-clause-few : goal.turn-requires-clause-few
 turn-requires-clause-few g c =
     let queues = c.args.state.now.queues in
-    omega (arith, ap length (c.as_slice-changes.ensures.value ∙ c.put_changes.ensures.changes), turns-few queues c.args.to.now (length queues), c.requires.same)
+    omega (arith, ap length (c.as_slice-changes.ensures.value ∙ c.put_turns.ensures.turns), turns-few queues c.args.to.now (length queues), c.requires.same)
 
 pub turn-requires-clause-known : goal.turn-requires-clause-known
-turn-requires-clause-known g c = rw (c.as_slice-changes.ensures.value, c.put_changes.ensures.changes, c.requires.same) (turns-known c.args.state.now.queues c.args.to.now)
+turn-requires-clause-known g c = rw (c.as_slice-changes.ensures.value, c.put_turns.ensures.turns, c.requires.same) (turns-known c.args.state.now.queues c.args.to.now)
 
 pub turn-requires-clause-floor : goal.turn-requires-clause-floor
-turn-requires-clause-floor g c = rw (c.as_slice-changes.ensures.value, c.put_changes.ensures.changes) (turns-floor c.requires.may.is c.requires.may.aimed c.args.to.now)
+turn-requires-clause-floor g c = rw (c.as_slice-changes.ensures.value, c.put_turns.ensures.turns) (turns-floor c.requires.may.is c.requires.may.aimed c.args.to.now)
 
 pub turn-requires-clause-planner : goal.turn-requires-clause-planner
 turn-requires-clause-planner g c =
@@ -51,14 +51,14 @@ pub invariant_of-self : goal.invariant_of-self
 invariant_of-self g c =
     let may = c.requires.may in
     let a = subst (λ (f : TurnFleet). IsAimed c.args.grid.now may.history (planner_of f)) (sym c.self.view_is) may.aimed in
-    omega (arith, c.turn.ensures.planner.asked, c.requires.same, queue-count may.is, aims-count may.history c.self.inside.planner.courses a.aimed, c.put_changes.ensures.room, c.self.invariant)
+    omega (arith, c.turn.ensures.planner.asked, c.requires.same, queue-count may.is, aims-count may.history c.self.inside.planner.courses a.aimed, c.put_turns.ensures.room, c.self.invariant)
 
 pub returns : goal.returns
 returns g c =
     let may = c.requires.may in
     let m = c.args.grid.now in
     let a = subst (λ (f : TurnFleet). IsAimed m may.history (planner_of f)) (sym c.self.view_is) may.aimed in
-    let changes = c.as_slice-changes.ensures.value ∙ c.put_changes.ensures.changes in
+    let changes = c.as_slice-changes.ensures.value ∙ c.put_turns.ensures.turns in
     record {
       turns = c.turn.ensures.turns ∙ ap (λ (f : TurnFleet). f.turns) c.self.view_is;
       goals = on_ok_map c.turn.result (λ e. e ∙ (ap (λ (ts : List GoalChange). turned ts (goals_of c.self.inside.planner.courses)) changes ∙ turned-goals may.is a c.args.to.now)) c.turn.ensures.goals;

@@ -1,0 +1,16 @@
+pub use Rattle.fleet_grid.proofs.Forms
+pub mod Entering
+pub mod Listed
+pub mod Seated
+pub mod Holding
+pub mod Blank
+pub mod Taking
+pub mod Yielding
+pub mod Choosing
+pub mod Finished
+pub mod Pigeon
+pub mod Closure
+pub mod Stuck
+pub mod Leading
+pub mod Failing
+pub mod Told

@@ -1,0 +1,6 @@
+-- For how many cells and robots a shield was made.
+use Rattle.std.specs.Prelude.{ℕ}
+
+pub record Size : Type 0 where
+  pub cells : ℕ
+  pub robots : ℕ

@@ -1,0 +1,4 @@
+-- What only proofs and private functions use.
+pub mod Entered
+pub mod Board
+pub mod First
