@@ -19,6 +19,7 @@ RAW(open);
 RAW(open_roomy);
 RAW(reopen);
 RAW(reopen_roomy);
+RAW(take_turns);
 RAW(close);
 RAW(go);
 RAW(close_client);
@@ -250,6 +251,11 @@ nashirudder_code nashirudder_account_of(const nashirudder_fleet *fleet,
     if (!fleet || !account) return NASHIRUDDER_NULL_POINTER;
     nashirudder_fleet seen = *fleet;
     return raw_nashirudder_account_of(&seen, client, account);
+}
+
+nashirudder_code nashirudder_take_turns(nashirudder_fleet *fleet) {
+    if (!fleet) return NASHIRUDDER_NULL_POINTER;
+    return raw_nashirudder_take_turns(fleet);
 }
 
 nashirudder_code nashirudder_widen(nashirudder_fleet *fleet, uint32_t client,

@@ -102,6 +102,7 @@ typedef NASHIRUDDER_ENUM(nashirudder_code) {
     NASHIRUDDER_NULL_POINTER = 16,       /* a pointer is null */
     NASHIRUDDER_BAD_ORDER = 17,          /* there is no kind of orders of this number */
     NASHIRUDDER_NO_ROOM = 18,            /* the cell is not roomy for the fleet's robots (nashirudder_open_roomy) */
+    NASHIRUDDER_CHAPTER_BEGUN = 19,      /* the chapter has an entry (nashirudder_take_turns) */
 
     /* a map's first fault; a nashirudder_fault has the numbers */
     NASHIRUDDER_MAP_HEADER = 20,         /* the line of the head, `first`, is missing or not in its form */
@@ -116,6 +117,7 @@ typedef NASHIRUDDER_ENUM(nashirudder_code) {
     NASHIRUDDER_START_BLOCKED = 32,      /* the robot `first` does not start on floor */
     NASHIRUDDER_START_SHARED = 33,       /* the robots `first` and `second` start on one cell */
     NASHIRUDDER_WRONG_SIZE = 34,         /* the setup has not the size that the library reads: it was made with another header */
+    NASHIRUDDER_NO_TURNS = 35,           /* the rooms that were found on the map do not pass their checks (nashirudder_take_turns) */
 
     /* what is said of a map alone */
     NASHIRUDDER_TOO_MANY = 40,           /* more robots are named than the map has cells */
@@ -234,6 +236,7 @@ static inline const char *nashirudder_code_name(uint32_t code) {
     case NASHIRUDDER_NULL_POINTER: return "null-pointer";
     case NASHIRUDDER_BAD_ORDER: return "bad-order";
     case NASHIRUDDER_NO_ROOM: return "no-room";
+    case NASHIRUDDER_CHAPTER_BEGUN: return "chapter-begun";
     case NASHIRUDDER_MAP_HEADER: return "map-header";
     case NASHIRUDDER_MAP_SIZE: return "map-size";
     case NASHIRUDDER_MAP_ROW: return "map-row";
@@ -244,6 +247,7 @@ static inline const char *nashirudder_code_name(uint32_t code) {
     case NASHIRUDDER_START_BLOCKED: return "start-blocked";
     case NASHIRUDDER_START_SHARED: return "start-shared";
     case NASHIRUDDER_WRONG_SIZE: return "wrong-size";
+    case NASHIRUDDER_NO_TURNS: return "no-turns";
     case NASHIRUDDER_TOO_MANY: return "too-many";
     case NASHIRUDDER_FROM_BLOCKED: return "from-blocked";
     case NASHIRUDDER_FROM_SHARED: return "from-shared";
@@ -608,6 +612,16 @@ NASHIRUDDER_MUST_USE nashirudder_code nashirudder_open_roomy(const uint8_t *map,
 NASHIRUDDER_MUST_USE nashirudder_code nashirudder_reopen_roomy(const uint8_t *map, size_t map_length, const uint8_t *text, size_t text_length,
                           const nashirudder_robot *robots, size_t robots_length, const nashirudder_setup *setup,
                           nashirudder_fleet *fleet, nashirudder_fault *fault);
+
+/*
+** Lets the robots take turns from now on: a robot that is to go into a dead end where others are lends them its turn, until they
+** are out. So each errand to a cell that is served arrives (docs/PROTOCOL.md, "Turns"), where it might block all robots for ever otherwise. On
+** a map without bridges nothing changes. The chapters that follow are planned so too; a fleet that goes on from a kept chapter is
+** asked again. Call it before the first order, tick or shut of a chapter.
+**
+** Refused: NASHIRUDDER_NOT_OPEN, NASHIRUDDER_CHAPTER_BEGUN, NASHIRUDDER_NO_TURNS, NASHIRUDDER_NO_MEMORY.
+*/
+NASHIRUDDER_MUST_USE nashirudder_code nashirudder_take_turns(nashirudder_fleet *fleet);
 
 /*
 ** Closes a handle: frees what an open one owns. A closed one stays closed.

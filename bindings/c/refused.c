@@ -201,6 +201,7 @@ int main(void) {
             opens++;
             if (code != NASHIRUDDER_NO_MEMORY || fault.code != code || fleet.is_open) return 6;
         } else {
+            TRY(others, nashirudder_take_turns(&fleet));
             TRY(orders, nashirudder_go(&fleet, 0, 0, 11, &judgement));
             TRY(orders, nashirudder_go(&fleet, 0, 1, 8, &judgement));
             for (int i = 0; i < 3; i++) TRY(ticks, nashirudder_tick(&fleet, &report));

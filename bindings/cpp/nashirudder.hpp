@@ -103,7 +103,7 @@ enum class Code : std::uint32_t {
     already_shut = NASHIRUDDER_ALREADY_SHUT, book_spent = NASHIRUDDER_BOOK_SPENT, no_notice = NASHIRUDDER_NO_NOTICE,
     too_wide = NASHIRUDDER_TOO_WIDE, idle = NASHIRUDDER_IDLE, has_bridge = NASHIRUDDER_HAS_BRIDGE,
     wrong_length = NASHIRUDDER_WRONG_LENGTH, null_pointer = NASHIRUDDER_NULL_POINTER, bad_order = NASHIRUDDER_BAD_ORDER,
-    no_room = NASHIRUDDER_NO_ROOM,
+    no_room = NASHIRUDDER_NO_ROOM, chapter_begun = NASHIRUDDER_CHAPTER_BEGUN, no_turns = NASHIRUDDER_NO_TURNS,
     map_header = NASHIRUDDER_MAP_HEADER, map_size = NASHIRUDDER_MAP_SIZE, map_row = NASHIRUDDER_MAP_ROW,
     map_cell = NASHIRUDDER_MAP_CELL, map_trailing = NASHIRUDDER_MAP_TRAILING, bad_setup = NASHIRUDDER_BAD_SETUP,
     robot_count = NASHIRUDDER_ROBOT_COUNT, start_blocked = NASHIRUDDER_START_BLOCKED,
@@ -743,6 +743,8 @@ public:
         detail::check(nashirudder_account_of(&handle, client, &account));
         return account;
     }
+    /* Lets the robots take turns from now on, so that errands into dead ends arrive: before the first entry of a chapter. */
+    void take_turns() { detail::check(nashirudder_take_turns(&handle)); }
     void widen(std::uint32_t client, std::uint64_t extra) { detail::check(nashirudder_widen(&handle, client, extra)); }
     /* Where the robots stand, by number, into a list that has one place for each. */
     void placement(Span<std::uint32_t> cells) const { detail::check(nashirudder_placement(&handle, detail::address(cells), cells.size())); }

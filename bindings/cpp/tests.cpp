@@ -875,6 +875,34 @@ static void roomy() {
 }
 
 /* With a word: the threads alone, for a tool that takes long. */
+/* Robots that take turns: one before a dead end, which is to go to its last cell, and one on that cell, which is to go out. */
+static void turns() {
+    const std::vector<Robot> two = {{8, {0, 0, 0, 0}}, {11, {0, 0, 0, 0}}};
+    for (bool take : {false, true}) {
+        Fleet fleet(STUB, two);
+        if (take) fleet.take_turns();
+        CHECK(fleet.go(0, 0, 11).number == 1 && fleet.go(0, 1, 0).number == 2);
+        CHECK(is(refusal_of([&] { fleet.take_turns(); }), NASHIRUDDER_CHAPTER_BEGUN));
+        std::uint32_t arrived[8] = {};
+        for (std::uint32_t tick = 1; tick < 8; tick++) arrived[tick] = fleet.tick().arrived;
+        // Without turns they stand before each other for ever, at 10 and 11.
+        const std::vector<std::uint32_t> cells = take ? std::vector<std::uint32_t>{11, 0} : std::vector<std::uint32_t>{10, 11};
+        CHECK(arrived[6] == take && arrived[7] == take && fleet.placement() == cells && fleet.is_idle() == take);
+        // The next chapter goes on so; a fleet that goes on from the chapter is asked again.
+        Fleet next = Fleet::reopen(STUB, fleet.trace(), two);
+        next.take_turns();
+        fleet.next_chapter();
+        fleet.take_turns();
+        for (int tick = 0; tick < 9; tick++) (void)next.tick();
+        CHECK(next.is_idle() && next.placement()[0] == 11);
+    }
+    nashirudder_fleet closed = NASHIRUDDER_CLOSED;
+    CHECK(nashirudder_take_turns(&closed) == NASHIRUDDER_NOT_OPEN && nashirudder_take_turns(nullptr) == NASHIRUDDER_NULL_POINTER);
+    Fleet ring(RING, {{0, {0, 0, 0, 0}}});
+    ring.take_turns();
+    CHECK(ring.go(0, 0, 11).number == 1);
+}
+
 int main(int count, char **) {
     if (count > 1) {
         lookers(5);
@@ -904,5 +932,6 @@ int main(int count, char **) {
     maps();
     opened_maps();
     roomy();
+    turns();
     std::printf("bindings/cpp/tests.cpp: all pass\n");
 }

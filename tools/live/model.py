@@ -1,7 +1,7 @@
 #!/usr/bin/env python3
 """A fleet on demand or in real time once more: an independent model of `fleet live`, written from docs/PROTOCOL.md over the model of `errands`.
 
-usage: tools/live/model.py [--watch] [--resume CHAPTER] MAP SCRIPT < LINES
+usage: tools/live/model.py [--watch] [--recall=N] [--resume CHAPTER] MAP SCRIPT < LINES
        tools/live/model.py --cases FILE
 
 Says what the first conversation says, where no client has pipes of its own: output, error text, status. SCRIPT has the header lines. With --resume the
@@ -58,12 +58,17 @@ class Live:
         hooks = (model.south_hooks if head.south else model.plain_hooks)(len(head.starts))
         self.rings = model.run(grid, head.starts, head.clients, head.limits, hooks, [])
         self.world, self.out, self.limited, self.closed = self.rings.world, [], False, set()
+        # By client the number of its last order, how many notices it was told, and those that are told again.
+        self.recall, self.posts, self.seqs = 0, [0] * head.clients, [0] * head.clients
+        self.told = [[] for _ in range(head.clients)]
 
     def resume(self, name, number, text):
         """The fleet goes on from a chapter. Its lanes are new, also those of clients that are closed."""
         self.world, self.head.limits = talk.reopened(self.grid, self.head, name, number, text)
         self.head.clients = len(self.world.taken)
         self.rings = talk.new_rings(self.world)
+        self.posts, self.seqs = list(self.world.taken), list(self.world.noticed)
+        self.told = [[] for _ in self.posts]
 
     def unroomy(self):
         """The cells that are not roomy for the robots."""
@@ -122,6 +127,9 @@ class Live:
             found = True
             for line in model.event_lines(("collect", client), reply, None):
                 self.say(None, line)
+                self.seqs[client] = int(line.split()[2])
+                self.told[client].append(line)
+            self.told[client] = self.told[client][-self.recall:] if self.recall else []
 
     def tell_all(self):
         """Tells each client what is on its outlet, until its mailbox is empty too."""
@@ -243,9 +251,35 @@ class Live:
         for line in model.event_lines(event, reply, None):
             self.say(mark, line)
         if reply[0] == "posted":
+            self.posts[client] += 1
             if order[0] == "close":
                 self.closed.add(client)
             self.settle()
+
+    def again(self, mark, words):
+        """`session C` and `since C SEQ`; whether it is one of them."""
+        numbers = [model._number(word, 2 ** 64 - 1) for word in words[1:]]
+        if len(words) != {b"session": 2, b"since": 3}[words[0]] or None in numbers or numbers[0] > model.U32:
+            return False
+        client, told = numbers[0], None
+        if not self.first <= client < self.head.clients:
+            self.say(mark, f"no-client {client}")
+        elif words[0] == b"session":
+            told = self.told[client]
+            first = int(told[0].split()[2]) if told else self.seqs[client] + 1
+            closed = "true" if client in self.closed or self.world.closed[client] else "false"
+            self.say(mark, f"session {client} orders {self.posts[client]} notices {self.seqs[client]} told from {first} closed {closed}")
+        else:
+            told = [line for line in self.told[client] if int(line.split()[2]) > numbers[1]]
+            length = count = 0
+            for line in told:
+                # One answer has no more.
+                if length < 14_336:
+                    length += len(line) + 1 + (0 if mark is None else len(mark) + 1)
+                    count += 1
+                    self.say(mark, line)
+            self.say(mark, f"since {client} end {count}")
+        return True
 
     def shut(self, mark, robot):
         replies = []
@@ -291,6 +325,8 @@ class Live:
         elif kind == "header" and what in ([b"watch", b"on"], [b"watch", b"off"]):
             self.watch = what[1] == b"on"
             self.say(mark, "watch " + what[1].decode())
+        elif kind == "header" and what[0] in (b"session", b"since") and self.again(mark, what):
+            pass
         elif kind == "events" and what[0][0] == "tick" and self.period is None:
             self.tick(mark, len(what))
         elif kind == "events" and what[0][0] == "post" and what[0][1] < self.first:
@@ -366,9 +402,10 @@ def hold(held, lines):
     return True
 
 
-def live(text, script, lines, watch=False, fails=0, kept=None, period=None, pipe=b""):
+def live(text, script, lines, watch=False, fails=0, kept=None, period=None, pipe=b"", recall=0):
     """(output, error text, status, entries of the chapters that were kept); `kept` is as for a conversation"""
     held = Live(model.Grid(*model.read_map(text)), talk.head_of(script), watch, fails, period, bool(pipe))
+    held.recall = recall
     if kept is not None:
         try:
             held.resume(*kept)
@@ -426,7 +463,8 @@ def main(words):
         print(__doc__.strip())
         return 0 if {"--help", "-h"} & set(words) else 2
     texts = [open(name, "rb").read() for name in words if not name.startswith("--")]
-    out, error, status, _ = live(texts[0], texts[1], sys.stdin.buffer.read(), "--watch" in words, kept=kept)
+    recall = max([int(word[len("--recall="):]) for word in words if word.startswith("--recall=")], default=0)
+    out, error, status, _ = live(texts[0], texts[1], sys.stdin.buffer.read(), "--watch" in words, kept=kept, recall=recall)
     sys.stdout.buffer.write(out)
     sys.stderr.write(error)
     return status

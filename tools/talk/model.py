@@ -1,23 +1,26 @@
 #!/usr/bin/env python3
 """A conversation with a fleet once more: an independent model of `fleet talk`, written from docs/PROTOCOL.md over the model of `errands`.
 
-usage: tools/talk/model.py [--marks] [--roll] [--chapter-bytes N] [--roomy] [--resume CHAPTER] MAP [SCRIPT] < LINES
+usage: tools/talk/model.py [--marks] [--roll] [--chapter-bytes N] [--roomy] [--planner plain|turns] [--resume CHAPTER] MAP [SCRIPT] < LINES
        tools/talk/model.py --cases FILE
 
 Answers as `fleet talk` does: output, error text, status. With --resume the fleet goes on from the file of a chapter, DIR/chapter-N.json. With
 --cases it reads the section `talk` of crates/golden_errands/stdin and prints what golden_errands has to print of it.
-`talk(map, script, lines, marks, roll, kept, roomy)` returns (output, error text, status); `roll` is the bytes that a chapter's text may have where
+`talk(map, script, lines, marks, roll, kept, roomy, turns)` returns (output, error text, status); `roll` is the bytes that a chapter's text may have where
 chapters are handed out unasked, or None; `kept` is the name of a chapter's file, its number and
-its text. The error text begins with the warning that cells are not roomy, if there is one. Standard library only.
+its text; with `turns` the robots take turns, on maps where one block is best (tools/turns/rooms.py). The error text begins with the warning that cells are not
+roomy, if there is one. Standard library only.
 """
 import functools
 import os
 import re
 import sys
 
-sys.path.insert(0, os.path.join(os.path.dirname(os.path.abspath(__file__)), "..", "reference"))
+TOOLS = os.path.dirname(os.path.dirname(os.path.abspath(__file__)))
+sys.path[:0] = [os.path.join(TOOLS, "reference"), os.path.join(TOOLS, "turns")]
 import laws
 import model
+import rooms
 
 MOST = 8192
 DEFAULTS = {"life": 2 ** 40, "orders": 2 ** 62, "clock": 2 ** 48, "chapters": model.U32}
@@ -301,8 +304,8 @@ def open_count(world):
 
 
 class Talk:
-    def __init__(self, grid, head, marks, roll, roomy):
-        self.grid, self.head, self.marks, self.roll, self.roomy = grid, head, marks, roll, roomy
+    def __init__(self, grid, head, marks, roll, roomy, turns=False):
+        self.grid, self.head, self.marks, self.roll, self.roomy, self.turns = grid, head, marks, roll, roomy, turns
         self.world, self.out, self.limited = None, [], False
         # the cells that are not roomy, those to which posts are refused, and what is said of the former
         self.unroomy, self.refused, self.warning = set(), set(), ""
@@ -314,6 +317,7 @@ class Talk:
         self.rings = new_rings(self.world)
         self.opened_with = open_count(self.world)
         self.find_door()
+        self.choose()
         for client in range(self.head.clients):
             for robot, queue in enumerate(self.world.queues):
                 for owner, _, cell in queue:
@@ -327,9 +331,16 @@ class Talk:
         self.unroomy = unroomy_cells(self.grid, robots)
         if self.roomy:
             self.refused = self.unroomy
-        elif self.unroomy:
+        elif self.unroomy and not self.turns:
             told = f"{len(self.unroomy)} of {self.grid.floor_count()} cells are not roomy for {robots} robots"
             self.warning = f"fleet: {told}: errands there may block the fleet for ever\n"
+
+    def choose(self):
+        """Has the ticks of the open fleet planned in the manner that is asked for."""
+        if self.turns and not self.world.is_bridgeless():
+            self.world.mover = rooms.mover(self.grid)
+            if self.world.mover is None:
+                raise SystemExit("tools/talk/model.py: several blocks of this map are best")
 
     def say(self, mark, lines):
         for line in lines:
@@ -341,6 +352,7 @@ class Talk:
         self.rings = model.run(self.grid, self.head.starts, self.head.clients, self.head.limits, hooks, [])
         self.opened_with = 0
         self.find_door()
+        self.choose()
 
     def turn(self):
         told = f"chapter {self.world.number} entries {len(self.world.entries)}"
@@ -429,13 +441,13 @@ def head_of(script):
     return head
 
 
-def talk(text, script, lines, marks=False, roll=None, kept=None, roomy=False):
+def talk(text, script, lines, marks=False, roll=None, kept=None, roomy=False, turns=False):
     """(output, error text, status)"""
-    output, warning, complaint, status = told_in(text, script, lines, marks, roll, kept, roomy)
+    output, warning, complaint, status = told_in(text, script, lines, marks, roll, kept, roomy, turns)
     return output, warning + complaint, status
 
 
-def told_in(text, script, lines, marks, roll, kept, roomy):
+def told_in(text, script, lines, marks, roll, kept, roomy, turns=False):
     """(output, the warning that cells are not roomy, what else the error text says, status)"""
     try:
         rows = model.read_map(text)
@@ -445,7 +457,7 @@ def told_in(text, script, lines, marks, roll, kept, roomy):
         head = head_of(script)
     except model.Stop as stop:
         return b"", "", stop.args[1] + "\n", stop.args[0]
-    held = Talk(model.Grid(*rows), head, marks, roll, roomy)
+    held = Talk(model.Grid(*rows), head, marks, roll, roomy, turns)
     if kept is not None:
         try:
             held.resume(*kept)
@@ -550,9 +562,13 @@ def main(words):
     if "--chapter-bytes" in words:
         at = words.index("--chapter-bytes")
         roll, words = int(words[at + 1]), words[:at] + words[at + 2:]
+    planner = "plain"
+    if "--planner" in words:
+        at = words.index("--planner")
+        planner, words = words[at + 1], words[:at] + words[at + 2:]
     names = [word for word in words if not word.startswith("--")]
     texts = [open(name, "rb").read() for name in names] + [b""]
-    out, error, status = talk(texts[0], texts[1], sys.stdin.buffer.read(), "--marks" in words, roll, kept, "--roomy" in words)
+    out, error, status = talk(texts[0], texts[1], sys.stdin.buffer.read(), "--marks" in words, roll, kept, "--roomy" in words, planner == "turns")
     sys.stdout.buffer.write(out)
     sys.stderr.write(error)
     return status

@@ -144,6 +144,7 @@ FUNCTIONS = {
     "peek": (_FLEET, c_uint32, POINTER(CNote)),
     "pending_count": (_FLEET, c_uint32, POINTER(c_uint64)),
     "account_of": (_FLEET, c_uint32, POINTER(CAccount)),
+    "take_turns": (_FLEET,),
     "widen": (_FLEET, c_uint32, c_uint64),
     "robots": (_FLEET, POINTER(c_size_t)),
     "clients": (_FLEET, POINTER(c_size_t)),

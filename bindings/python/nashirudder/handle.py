@@ -235,6 +235,15 @@ class Handle(Uncopied, Views, Batches):
         check(self._call("give_many", whole_number("client", client), notes, most, byref(count)))
         return [notice_of(note) for note in notes[: count.value]]
 
+    def take_turns(self) -> None:
+        """Lets the robots take turns from now on, so that errands to served cells arrive, also in dead ends.
+
+        On a map without bridges nothing changes. The chapters that follow are planned so too; a fleet that is reopened
+        is asked again. Raises Refused with "chapter-begun" if the chapter has an entry, or "no-turns" if the rooms that
+        were found do not pass their checks.
+        """
+        check(self._call("take_turns"))
+
     def widen(self, extra: int, client: int = 0) -> None:
         """Lets the client's mailbox hold `extra` more notices and unfinished errands, and takes the memory for them at
         once.

@@ -28,7 +28,7 @@ from .handle import Handle
 from .map_handle import Map
 from .maps import check_step, distances, first_bridge, judge
 from .names import Code, Verdict
-from .opening import Text, Ties
+from .opening import Planner, Text, Ties
 from .orders import Errand, Order
 from .quick_calls import QuickCalls
 from .records import Arrival, Chapter, Farewell, Look, OpenErrand, Standing
@@ -59,7 +59,8 @@ class Fleet(AnyFleet):
 
     `built` is the library, or a folder that has it. `ties` is "plain": "south" is refused by OutOfRange. (A robot's own
     ranks, by which "south" chooses, are for `Handle`.) With `roomy`, as over pipes, `go` refuses an errand to a cell
-    that is not roomy for the robots with "no-room".
+    that is not roomy for the robots with "no-room". With the planner "turns" the robots take turns in dead ends, so that
+    errands there arrive too (docs/PROTOCOL.md, "Turns").
     """
 
     def __init__(
@@ -74,6 +75,7 @@ class Fleet(AnyFleet):
         resume: bool = False,
         roll: bool = True,
         roomy: bool = False,
+        planner: Planner = "plain",
         built: Optional[Place] = None,
         timeout: Optional[float] = None,
         life: Optional[int] = None, orders: Optional[int] = None, clock: Optional[int] = None, lane: Optional[int] = None,
@@ -85,6 +87,7 @@ class Fleet(AnyFleet):
         if told.ties != "plain":
             raise OutOfRange(f'ties {told.ties!r} are for nashirudder.Fleet alone; in this process they are "plain"')
         opening.need_traces(told, resume)
+        takes_turns = opening.checked_planner(planner)
         super().__init__(timeout, OwnTurns())
         self._roll = roll
         self._clients = told.clients
@@ -102,6 +105,8 @@ class Fleet(AnyFleet):
                 self._handle = Handle(told.read_map(), told.robots, told.clients, roomy=roomy, built=built, **limits)
             else:
                 self._handle, self._number = reopened(told, kept, built, roomy), kept.number + 1
+            if takes_turns:
+                self._handle.take_turns()
             if roomy:
                 with Map(told.read_map(), built=built) as of:
                     self._unroomy = frozenset(int(cell) for cell in of.unroomy(len(told.robots)))

@@ -13,7 +13,7 @@ from .errors import FleetError, OutOfRange, Refused, Waiting, refusal
 from .finding import Place
 from .fleet import MOST_TICKS, TICKS_AT_ONCE
 from .names import Verdict, verdict_in
-from .opening import Text, Ties
+from .opening import Planner, Text, Ties
 from .orders import AnyErrand, Ledger, Order, need_own
 from .process import Asked, Program, chapter_in, errands_in, look_in, silently
 from .ranges import whole_number
@@ -76,7 +76,7 @@ class LiveFleet(Closing):
     the robots' cells, in a thread of its own, in which it may call any method. The first call may come before the
     constructor has returned. An exception of it is reported as that of any thread, and the next tick is told all the
     same. While it is slower than the fleet, ticks are left out. A full chapter is followed by the next. With `keep_every_ms` a chapter is written to `traces` at least once in this many
-    milliseconds, 0.001 to 3,600,000, so that a fleet that is killed loses no more than that. The other words, as `roomy`, are those
+    milliseconds, 0.001 to 3,600,000, so that a fleet that is killed loses no more than that. The other words, as `roomy` and `planner`, are those
     of `Fleet`, and so are the exceptions. Any thread may call any method.
     """
 
@@ -93,6 +93,7 @@ class LiveFleet(Closing):
         traces: Optional[Place] = None,
         resume: bool = False,
         roomy: bool = False,
+        planner: Planner = "plain",
         keep_every_ms: Optional[float] = None,
         built: Optional[Place] = None,
         timeout: Optional[float] = None,
@@ -109,6 +110,8 @@ class LiveFleet(Closing):
             words.append("--watch")
         if roomy:
             words.append("--roomy")
+        if opening.checked_planner(planner):
+            words += ["--planner", planner]
         words += opening.trace_words(told, resume)
         if keep_every_ms is not None:
             if told.traces is None:

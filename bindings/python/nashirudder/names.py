@@ -31,6 +31,7 @@ class Code(enum.IntEnum):
     NULL_POINTER = 16
     BAD_ORDER = 17
     NO_ROOM = 18
+    CHAPTER_BEGUN = 19
     MAP_HEADER = 20
     MAP_SIZE = 21
     MAP_ROW = 22
@@ -41,6 +42,7 @@ class Code(enum.IntEnum):
     START_BLOCKED = 32
     START_SHARED = 33
     WRONG_SIZE = 34
+    NO_TURNS = 35
     TOO_MANY = 40
     FROM_BLOCKED = 41
     FROM_SHARED = 42
@@ -128,6 +130,7 @@ SENTENCES = {
     "wrong-length": "a list has not the length that the call asks for",
     "null-pointer": "a pointer is null",
     "bad-order": "there is no kind of orders of this number",
+    "chapter-begun": "the chapter has an entry: robots take turns from the beginning of a chapter on",
     "map-header": "the map: line # is missing or not in its form: the head is `type WORD`, `height N` and "
         "`width N`, and `map`",
     "map-size": "the map: the height or the width is not from 1 to 1,024",
@@ -139,6 +142,7 @@ SENTENCES = {
     "start-blocked": "robot # starts on a cell that is no floor",
     "start-shared": "robots # and % both start on one cell",
     "wrong-size": "the setup has not the size that this library reads: it was made with another header",
+    "no-turns": "the rooms that were found on the map do not pass their checks: robots take no turns",
     "too-many": "more robots are named than the map has cells",
     "from-blocked": "before the step robot # is on no floor",
     "from-shared": "before the step robots # and % are on one cell",

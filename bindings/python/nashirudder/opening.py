@@ -13,7 +13,7 @@ from .finding import Place
 from .ranges import checked_limits, limits_in, whole_number
 
 __all__ = [
-    "ENDLESS", "MapText", "Opening", "Text", "Ties", "checked", "limits_in", "map_text", "need_traces", "read_map",
+    "ENDLESS", "MapText", "Opening", "Planner", "Text", "Ties", "checked", "checked_planner", "limits_in", "map_text", "need_traces", "read_map",
     "sides_of", "text_of", "trace_words",
 ]
 
@@ -22,6 +22,8 @@ Text = Union[str, bytes]
 # A map: its text, or the path of a file, which is no str
 MapText = Union[str, bytes, "os.PathLike[str]"]
 Ties = Literal["plain", "south"]
+# How ticks are planned
+Planner = Literal["plain", "turns"]
 
 MOST_ROBOTS = 512
 _MOST_SIDE = 1024
@@ -166,6 +168,13 @@ def need_traces(told: Opening, resume: bool) -> None:
     """Raises OutOfRange if a fleet is to go on and has no folder for traces."""
     if resume and told.traces is None:
         raise OutOfRange("a fleet that goes on has a folder for traces")
+
+
+def checked_planner(planner: str) -> bool:
+    """Whether the robots take turns. Raises OutOfRange for a word that is no planner's."""
+    if planner not in ("plain", "turns"):
+        raise OutOfRange(f'the planner is "plain" or "turns", and not {planner!r}')
+    return planner == "turns"
 
 
 def checked(

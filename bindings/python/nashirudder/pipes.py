@@ -9,7 +9,7 @@ from .errors import FleetError, Refused, refusal
 from .finding import Place
 from .fleet import TICKS_AT_ONCE, AnyFleet
 from .names import Verdict, verdict_in
-from .opening import Text, Ties
+from .opening import Planner, Text, Ties
 from .orders import Order
 from .process import Asked, Program, chapter_in, errands_in, look_in, silently
 from .records import Arrival, Chapter, Farewell, Look, OpenErrand, Standing
@@ -35,6 +35,8 @@ class Fleet(AnyFleet):
     they were, but for the robots' cells. With `roll`, which is the default, a full chapter is followed by the next.
     With `roomy` an errand to a cell that is not roomy for the robots is refused, so that none blocks the fleet for ever
     (docs/GLOSSARY.md, "roomy"): `go` raises Refused with "no-room", and a fleet with such an errand does not go on.
+    With the `planner` "turns" robots take turns in dead ends, so that errands there arrive (docs/PROTOCOL.md, "Turns");
+    a fleet that goes on takes turns if this is said again. It is for this class alone.
     `built` is the program, or a folder that has it (`nashirudder.finding` says where it is looked for without). No call
     waits longer than `timeout` seconds for the program; without it, as long as it takes.
 
@@ -56,6 +58,7 @@ class Fleet(AnyFleet):
         resume: bool = False,
         roll: bool = True,
         roomy: bool = False,
+        planner: Planner = "plain",
         built: Optional[Place] = None,
         timeout: Optional[float] = None,
         life: Optional[int] = None, orders: Optional[int] = None, clock: Optional[int] = None, lane: Optional[int] = None,
@@ -69,6 +72,8 @@ class Fleet(AnyFleet):
             words.append("--roll")
         if roomy:
             words.append("--roomy")
+        if opening.checked_planner(planner):
+            words += ["--planner", planner]
         words += opening.trace_words(told, resume)
         super().__init__(timeout, Turns())
         self._pending: Deque[Asked] = deque()

@@ -14,7 +14,7 @@ from . import finding, opening
 from .errors import Ended, FleetError, Missing, OutOfRange, Refused
 from .events import Arrived, Event, Judged, Moved, NotPosted, Over, Posted
 from .finding import Place
-from .opening import Text, Ties
+from .opening import Planner, Text, Ties
 from .process import end_of, errands_in, look_in
 from .ranges import whole_number
 from .records import Look, OpenErrand
@@ -73,6 +73,7 @@ class FleetStream:
         ties: Ties = "plain",
         traces: Optional[Place] = None,
         resume: bool = False,
+        planner: Planner = "plain",
         keep_every_ms: Optional[float] = None,
         metrics: Optional[Place] = None,
         built: Optional[Place] = None,
@@ -90,6 +91,8 @@ class FleetStream:
         if keep_every_ms is not None and told.traces is None:
             raise OutOfRange("a fleet that keeps a chapter so often has a folder for traces")
         words = [finding.program(built), "live", *opening.trace_words(told, resume), *["--watch"] * watch]
+        if opening.checked_planner(planner):
+            words += ["--planner", planner]
         for word, time in (("--period", period_ms), ("--keep-every", keep_every_ms)):
             words += [] if time is None else [word, f"{round(time * 1000)}us"]
         words += [] if metrics is None else ["--metrics", str(metrics)]

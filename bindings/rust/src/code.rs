@@ -54,6 +54,8 @@ pub enum Code {
     BadOrder,
     /// The cell is not roomy for the fleet's robots (`Fleet::open_roomy`).
     NoRoom,
+    /// The chapter has an entry (`Fleet::take_turns`).
+    ChapterBegun,
     /// The line of the head, `first`, is missing or not in its form.
     MapHeader,
     /// The height or the width is not from 1 to 1,024.
@@ -74,6 +76,8 @@ pub enum Code {
     StartShared,
     /// The setup has not the size that the library reads: it was made with another header.
     WrongSize,
+    /// The rooms that were found on the map do not pass their checks (`Fleet::take_turns`).
+    NoTurns,
     /// More robots are named than the map has cells.
     TooMany,
     /// Before the step the robot `first` is not on floor.
@@ -165,6 +169,7 @@ impl Code {
             16 => Code::NullPointer,
             17 => Code::BadOrder,
             18 => Code::NoRoom,
+            19 => Code::ChapterBegun,
             20 => Code::MapHeader,
             21 => Code::MapSize,
             22 => Code::MapRow,
@@ -175,6 +180,7 @@ impl Code {
             32 => Code::StartBlocked,
             33 => Code::StartShared,
             34 => Code::WrongSize,
+            35 => Code::NoTurns,
             40 => Code::TooMany,
             41 => Code::FromBlocked,
             42 => Code::FromShared,
@@ -233,6 +239,7 @@ impl Code {
             Code::NullPointer => 16,
             Code::BadOrder => 17,
             Code::NoRoom => 18,
+            Code::ChapterBegun => 19,
             Code::MapHeader => 20,
             Code::MapSize => 21,
             Code::MapRow => 22,
@@ -243,6 +250,7 @@ impl Code {
             Code::StartBlocked => 32,
             Code::StartShared => 33,
             Code::WrongSize => 34,
+            Code::NoTurns => 35,
             Code::TooMany => 40,
             Code::FromBlocked => 41,
             Code::FromShared => 42,
@@ -301,6 +309,7 @@ impl Code {
             Code::NullPointer => "null-pointer",
             Code::BadOrder => "bad-order",
             Code::NoRoom => "no-room",
+            Code::ChapterBegun => "chapter-begun",
             Code::MapHeader => "map-header",
             Code::MapSize => "map-size",
             Code::MapRow => "map-row",
@@ -311,6 +320,7 @@ impl Code {
             Code::StartBlocked => "start-blocked",
             Code::StartShared => "start-shared",
             Code::WrongSize => "wrong-size",
+            Code::NoTurns => "no-turns",
             Code::TooMany => "too-many",
             Code::FromBlocked => "from-blocked",
             Code::FromShared => "from-shared",

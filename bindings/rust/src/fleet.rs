@@ -221,6 +221,17 @@ impl Fleet {
         Ok(notes[..count].iter().map(Notice::of).collect())
     }
 
+    /// Lets the robots take turns from now on, so that errands to served cells arrive, also in dead ends. On a map without
+    /// bridges nothing changes. The chapters that follow are planned so too; a fleet that is reopened is asked again.
+    ///
+    /// # Errors
+    ///
+    /// `Code::ChapterBegun` if the chapter has an entry, and `Code::NoTurns` if the rooms that were found do not pass their
+    /// checks.
+    pub fn take_turns(&mut self) -> Result<(), Error> {
+        check(unsafe { raw::nashirudder_take_turns(&mut self.handle) })
+    }
+
     /// Lets the client's mailbox hold this many more notices and unfinished errands.
     pub fn widen(&mut self, client: impl Into<Client>, extra: u64) -> Result<(), Error> {
         let client = client.into().0;

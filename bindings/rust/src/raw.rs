@@ -285,6 +285,7 @@ extern "C" {
         client: u32,
         account: *mut RawAccount,
     ) -> u32;
+    pub(crate) fn nashirudder_take_turns(fleet: *mut Handle) -> u32;
     pub(crate) fn nashirudder_widen(fleet: *mut Handle, client: u32, extra: u64) -> u32;
     pub(crate) fn nashirudder_placement(
         fleet: *const Handle,

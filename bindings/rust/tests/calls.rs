@@ -436,3 +436,21 @@ fn is_deterministic() -> Result<(), Error> {
     assert_eq!(one.trace()?, loaded.trace()?);
     Ok(())
 }
+
+#[test]
+fn takes_turns_in_dead_ends() -> Result<(), Refused> {
+    // A robot before a dead end, which is to go to its last cell, and one on that cell, which is to go out.
+    const STUB: &[u8] = b"type octile\nheight 3\nwidth 6\nmap\n...@@@\n......\n...@@@\n";
+    for take in [false, true] {
+        let mut fleet = Fleet::open(STUB, &[Robot::at(8), Robot::at(11)], &Setup::new(1))?;
+        if take {
+            fleet.take_turns()?;
+        }
+        let _ = (fleet.go(0, 0, 11)?, fleet.go(0, 1, 0)?);
+        assert_eq!(name_of(fleet.take_turns()), ("chapter-begun", (0, 0)));
+        let arrived: Vec<u32> = (0..7).map(|_| fleet.tick().map(|report| report.arrived)).collect::<Result<_, _>>()?;
+        let expected = if take { [0, 0, 0, 0, 0, 1, 1] } else { [0; 7] };
+        assert_eq!(arrived, expected);
+    }
+    Ok(())
+}

@@ -3,6 +3,7 @@
 ghost use Rattle.std.specs.Prelude.{None};
 
 use crate::files::{sync_folder, write_synced};
+use crate::journal::remove_journal;
 use crate::streams::Trouble;
 use fleet_lib::{Chapter, ChapterSink, Door, SinkFault, trace_line, unroomy_line, write_whole};
 use std::alloc::{Alloc, AllocError, Global};
@@ -15,11 +16,15 @@ use std::sync::Arc;
 pub(crate) struct TraceFolder<R, E> {
     rt: R,
     name: Option<String>,
+    /// Whether chapters have journals, which go once they are kept.
+    journals: bool,
     error: E,
     /// The file that could not be written last, and why.
     fault: String,
     /// Why the folder takes no chapter now.
     trouble: Arc<Trouble>,
+    /// Whether errands to cells that are not roomy may block the fleet.
+    may_block: bool,
 }
 
 /// Whether a file system may have no links: it refuses each of them by this.
@@ -72,6 +77,31 @@ fn keep_text<R: Files>(
     listed
 }
 
+/// Keeps the trace of a chapter in a folder.
+fn keep_trace<R: Files + Alloc<A = Global>>(
+    rt: &R,
+    folder: &str,
+    number: u32,
+    trace: &[u8],
+) -> io::Result<()> {
+    let name = format!(in rt.alloc(); "{folder}/chapter-{number}.json")?;
+    let beside = format!(in rt.alloc(); "{folder}/chapter-{number}.part")?;
+    keep_text(rt, folder, (beside.as_str(), name.as_str()), trace)
+}
+
+/// Keeps the trace of a chapter in a folder, and removes its journal, which is not needed any more.
+pub(crate) fn keep_chapter<R: Files + Alloc<A = Global>>(
+    rt: &R,
+    folder: &str,
+    number: u32,
+    trace: &[u8],
+) -> io::Result<()> {
+    keep_trace(rt, folder, number, trace)?;
+    // The chapter is kept also where its journal stays.
+    let _removed = remove_journal(rt, folder, number);
+    Ok(())
+}
+
 /// A name of its own.
 fn own_name(alloc: Global, name: Option<&str>) -> Result<Option<String>, AllocError> {
     match name {
@@ -83,16 +113,19 @@ fn own_name(alloc: Global, name: Option<&str>) -> Result<Option<String>, AllocEr
 impl<R: Files + Alloc<A = Global> + Copy + Drop, E: Write + Drop> TraceFolder<R, E> {
     pub(crate) fn new(
         rt: &R,
-        name: Option<&str>,
+        (name, journals): (Option<&str>, bool),
         trouble: Arc<Trouble>,
         error: E,
+        may_block: bool,
     ) -> Result<TraceFolder<R, E>, AllocError> {
         Ok(TraceFolder {
             rt: *rt,
             name: own_name(rt.alloc(), name)?,
+            journals,
             error,
             fault: String::new(rt.alloc()),
             trouble,
+            may_block,
         })
     }
 
@@ -118,7 +151,7 @@ impl<R: Files + Alloc<A = Global> + Copy + Drop, E: Write + Drop> ChapterSink
     }
 
     fn opened(&mut self, door: &Door) {
-        if door.roomy || door.unroomy == 0 {
+        if !self.may_block || door.roomy || door.unroomy == 0 {
             return;
         }
         if let Ok(line) = unroomy_line(self.rt.alloc(), door) {
@@ -133,10 +166,13 @@ impl<R: Files + Alloc<A = Global> + Copy + Drop, E: Write + Drop> ChapterSink
         let (alloc, folder) = (self.rt.alloc(), folder.as_str());
         let number = chapter.number;
         let name = format!(in alloc; "{folder}/chapter-{number}.json")?;
-        let beside = format!(in alloc; "{folder}/chapter-{number}.part")?;
-        let text = trace_line(alloc, chapter)?;
-        let names = (beside.as_str(), name.as_str());
-        match keep_text(&self.rt, folder, names, text.as_bytes()) {
+        let trace = trace_line(alloc, chapter)?;
+        let kept = if self.journals {
+            keep_chapter(&self.rt, folder, number, trace.as_bytes())
+        } else {
+            keep_trace(&self.rt, folder, number, trace.as_bytes())
+        };
+        match kept {
             Ok(()) => {
                 self.trouble.clear();
                 Ok(())

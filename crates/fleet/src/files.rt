@@ -4,7 +4,7 @@ use std::fs::{self, File, Files, OpenFile};
 use std::io::{self, ErrorKind, Write};
 
 /// Removes what has this name, if anything has.
-fn remove_old<R: Files>(rt: &R, name: &str) -> io::Result<()> {
+pub(crate) fn remove_old<R: Files>(rt: &R, name: &str) -> io::Result<()> {
     match fs::remove_file(rt, name) {
         Ok(()) => Ok(()),
         Err(fault) if fault.kind() == ErrorKind::NotFound => Ok(()),

@@ -1,5 +1,6 @@
 //! The folder of chapters, before the fleet begins.
 
+use crate::journals::{JournalFile, journal_numbers, journals_after};
 use crate::kept_file::{KeptFile, file_of};
 use crate::lock::{lock_folder, try_folder};
 use fleet_lib::{InputFault, NamesFault, fail, last_chapter, write_whole};
@@ -26,6 +27,8 @@ pub(crate) enum FolderFault {
     Unreadable(String),
     /// The chapter with this number is not there, and a later one is.
     Missing(u32),
+    /// The journal of the chapter with this number is not there, and a later one is.
+    NoJournal(u32),
     /// The last chapter, whose file has this name, cannot be read.
     Unread(String),
     /// In its place is a pipe, a link or a folder.
@@ -82,8 +85,28 @@ pub(crate) struct HeldFolder {
     _lock: Option<File>,
 }
 
+/// What a fleet goes on from: the last chapter of its folder, if there is one, and the journals of those that follow it.
+#[derive(Drop)]
+pub(crate) struct Found {
+    pub(crate) kept: Option<KeptFile>,
+    pub(crate) journals: Vec<JournalFile>,
+}
+
+impl Found {
+    fn nothing(alloc: Global) -> Found {
+        Found {
+            kept: None,
+            journals: Vec::new(alloc),
+        }
+    }
+
+    fn is_nothing(&self) -> bool {
+        self.kept.is_none() && self.journals.is_empty()
+    }
+}
+
 /// The names of a folder's files. Those that are no text are left out: no chapter has such a name.
-fn names_in<R: Files + Alloc<A = Global> + Clone + Drop>(
+pub(crate) fn names_in<R: Files + Alloc<A = Global> + Clone + Drop>(
     rt: &R,
     folder: &str,
 ) -> Result<Vec<String>, FolderFault> {
@@ -101,9 +124,9 @@ fn names_in<R: Files + Alloc<A = Global> + Clone + Drop>(
     Ok(names)
 }
 
-/// Whether a chapter has this name.
+/// Whether a chapter or its journal has this name.
 fn is_chapter(name: &str) -> bool {
-    name.starts_with("chapter-") && name.ends_with(".json")
+    name.starts_with("chapter-") && (name.ends_with(".json") || name.ends_with(".journal"))
 }
 
 /// What is wrong with the names of a folder's files.
@@ -131,57 +154,74 @@ fn last_of<R: Files + Alloc<A = Global>>(
     }
 }
 
-/// The chapter of a folder from which a fleet goes on, if it is to go on and there is one. A fleet that begins anew
-/// takes no folder that has chapters, and one that may only go on takes none that has no chapter.
+/// The last chapter of a folder with these files, and the journals of those that follow it.
+fn found_in<R: Files + Alloc<A = Global>>(
+    rt: &R,
+    folder: &str,
+    names: Vec<String>,
+) -> Result<Found, FolderFault> {
+    let numbers = journal_numbers(rt.alloc(), &names)?;
+    let kept = last_of(rt, folder, names)?;
+    let last = match &kept {
+        Some(file) => Some(file.number()),
+        None => None,
+    };
+    let journals = journals_after(rt, folder, &numbers, last)?;
+    Ok(Found { kept, journals })
+}
+
+/// What a fleet goes on from in a folder, if it is to go on and there is something. A fleet that begins anew takes no
+/// folder that has chapters, and one that may only go on takes none that has no chapter.
 fn kept_in<R: Files + Alloc<A = Global> + Clone + Drop>(
     rt: &R,
     folder: &str,
     start: Start,
-) -> Result<Option<KeptFile>, FolderFault> {
+) -> Result<Found, FolderFault> {
     let names = names_in(rt, folder)?;
     if start == Start::Anew {
         if names.iter().any(|name| is_chapter(name.as_str())) {
             return Err(FolderFault::HasChapters);
         }
-        return Ok(None);
+        return Ok(Found::nothing(rt.alloc()));
     }
-    match last_of(rt, folder, names)? {
-        None if start == Start::ResumeOnly => Err(FolderFault::NoChapter),
-        kept => Ok(kept),
+    let found = found_in(rt, folder, names)?;
+    if found.is_nothing() && start == Start::ResumeOnly {
+        return Err(FolderFault::NoChapter);
     }
+    Ok(found)
 }
 
 /// What is held where no folder is named.
-fn without_folder(start: Start) -> Result<(HeldFolder, Option<KeptFile>), FolderFault> {
+fn without_folder(alloc: Global, start: Start) -> Result<(HeldFolder, Found), FolderFault> {
     match start {
-        Start::Anew => Ok((HeldFolder { _lock: None }, None)),
+        Start::Anew => Ok((HeldFolder { _lock: None }, Found::nothing(alloc))),
         Start::Resume => Err(FolderFault::NoFolder("--resume")),
         Start::ResumeOnly => Err(FolderFault::NoFolder("--resume-only")),
     }
 }
 
-/// Takes the folder of this name for a fleet, if one is named. Returns it with the chapter from which the fleet goes
-/// on, if it is to go on and there is one.
+/// Takes the folder of this name for a fleet, if one is named. Returns it with what the fleet goes on from, if it is to
+/// go on and there is something.
 pub(crate) fn hold_folder<R: Files<File = File> + Alloc<A = Global> + Clone + Drop>(
     rt: &R,
     name: Option<&str>,
     start: Start,
-) -> Result<(HeldFolder, Option<KeptFile>), FolderFault> {
+) -> Result<(HeldFolder, Found), FolderFault> {
     let Some(folder) = name else {
-        return without_folder(start);
+        return without_folder(rt.alloc(), start);
     };
     if folder.is_empty() {
         return Err(FolderFault::NoName);
     }
     let lock = lock_folder(rt, folder)?;
     try_folder(rt, folder)?;
-    let kept = kept_in(rt, folder, start)?;
-    Ok((HeldFolder { _lock: Some(lock) }, kept))
+    let found = kept_in(rt, folder, start)?;
+    Ok((HeldFolder { _lock: Some(lock) }, found))
 }
 
 /// Says that a fleet begins anew, where it could have gone on.
-pub(crate) fn tell_start<E: Write>(start: Start, kept: &Option<KeptFile>, error: &mut E) {
-    if start != Start::Anew && kept.is_none() {
+pub(crate) fn tell_start<E: Write>(start: Start, found: &Found, error: &mut E) {
+    if start != Start::Anew && found.is_nothing() {
         write_whole(error, b"fleet: begins anew\n");
     }
 }
@@ -194,6 +234,9 @@ fn chapter_line(alloc: Global, folder: &str, fault: FolderFault) -> Result<Strin
         }
         FolderFault::Missing(number) => format!(in alloc;
             "fleet: file {folder}/chapter-{number}.json: it is missing, and a later chapter is there\n"
+        ),
+        FolderFault::NoJournal(number) => format!(in alloc;
+            "fleet: file {folder}/chapter-{number}.journal: it is missing, and a later one is there\n"
         ),
         FolderFault::Unread(name) => format!(in alloc; "fleet: file {name}: it cannot be read\n"),
         FolderFault::NoFile(name) => {

@@ -8,7 +8,7 @@ use std::fs::{self, File, Files};
 use std::io::{self, Read, Seek, SeekFrom};
 
 /// The greatest length of a chapter's text, in bytes.
-const MOST_KEPT_BYTES: usize = 1_073_741_824;
+pub(crate) const MOST_KEPT_BYTES: usize = 1_073_741_824;
 
 /// The file of the chapter that a fleet goes on from.
 #[derive(Debug, Drop)]
@@ -19,6 +19,21 @@ pub(crate) struct KeptFile {
 }
 
 impl KeptFile {
+    /// The file of this name, with the text of the chapter of this number.
+    pub(crate) fn new(name: String, number: u32, text: Vec<u8>) -> KeptFile {
+        KeptFile { name, number, text }
+    }
+
+    /// Its text.
+    pub(crate) fn text(&self) -> &[u8] {
+        &self.text
+    }
+
+    /// The number of its chapter.
+    pub(crate) fn number(&self) -> u32 {
+        self.number
+    }
+
     /// The same, lent.
     pub(crate) fn lent(&self) -> KeptText<'_> {
         KeptText {
@@ -52,6 +67,14 @@ fn byte_at<F: Read + Seek>(file: &mut F, place: u64) -> io::Result<u8> {
 fn is_hollow<R: Files>(rt: &R, name: &str, len: u64) -> io::Result<bool> {
     let mut file = File::open(rt, name)?;
     Ok(byte_at(&mut file, 0)? == 0 || byte_at(&mut file, len.saturating_sub(1))? == 0)
+}
+
+/// Whether a file has this name, and no pipe, link or folder.
+pub(crate) fn is_plain_file<R: Files>(rt: &R, name: &str) -> bool {
+    match fs::symlink_metadata(rt, name) {
+        Ok(found) => found.is_file(),
+        Err(_) => false,
+    }
 }
 
 /// What is wrong with the file of this name.

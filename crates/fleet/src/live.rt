@@ -5,12 +5,16 @@ ghost use Rattle.std.specs.Prelude.{◌≤◌, IfOk, vec_len};
 use crate::chapters::TraceFolder;
 use crate::ends::complain;
 use crate::figures::{Outlet, figures_of};
-use crate::kept_file::KeptFile;
+use crate::folder::Found;
+use crate::journal::FolderJournal;
+use crate::journals::remove_blank;
+use crate::recalling::past_of;
 use crate::streams::{Pipe, Stream};
 use crate::talk::{lent_texts, texts_of};
 use crate::troubles::Troubles;
 use fleet_lib::{
-    ChapterSink, InputFault, Live, LiveEnds, Pipes, fail, pipe_names, run_live, write_whole,
+    ChapterSink, InputFault, Journal, Live, LiveEnds, Pipes, fail, pipe_names, run_live,
+    write_whole,
 };
 use std::alloc::{Alloc, AllocError, Global};
 use std::fs::{File, Files, OpenOptions};
@@ -177,13 +181,14 @@ pub(crate) fn hold_live<
     E: Write + Copy + Send + Drop + 'static,
     G: Write,
     S: ChapterSink + Send + Drop + 'static,
+    J: Journal + Drop,
 >(
     rt: &R,
-    (live, kept): (&Live, &Option<KeptFile>),
+    (live, found): (&Live, Found),
     (input, output): (I, W),
     (counts, figures): (F, Option<F>),
     (error, said): (E, &mut G),
-    sink: S,
+    (sink, journal): (S, Option<J>),
 ) -> u8 {
     if !live
         .pipes
@@ -200,6 +205,10 @@ pub(crate) fn hold_live<
         Ok(pipes) => pipes,
         Err(fault) => return complain_of_pipes(rt.alloc(), fault, said),
     };
+    let (kept, recalls) = match past_of(rt, (live, map.as_slice()), found, (error, said)) {
+        Ok(past) => past,
+        Err(status) => return status,
+    };
     let ends = LiveEnds {
         input,
         output,
@@ -207,8 +216,15 @@ pub(crate) fn hold_live<
         counts,
         figures,
         sink,
+        journal,
+        recalls,
     };
-    run_live(rt, lent_texts(&map, &script, kept), live, ends, said)
+    let status = run_live(rt, lent_texts(&map, &script, &kept), live, ends, said);
+    if live.journal {
+        // One that stays is removed at the next start.
+        let _removed = remove_blank(rt, live.traces.as_deref().unwrap_or(""));
+    }
+    status
 }
 
 /// What a fleet in real time is kept with: its streams, where its chapters and figures go, and what notes why one of
@@ -218,32 +234,53 @@ pub(crate) struct Kit<I, W, R, E> {
     pub(crate) talk: (Stream<I, R>, Stream<W, R>),
     pub(crate) told: (Outlet<E, R>, Option<Outlet<E, R>>),
     pub(crate) sink: TraceFolder<R, E>,
+    pub(crate) journal: Option<FolderJournal<R, E>>,
 }
 
-/// Streams and a sink that note why they fail, and where they note it. The folder of the chapters may have a name.
-type Noted<I, W, R, E> = (Troubles, (Stream<I, R>, Stream<W, R>), TraceFolder<R, E>);
+/// Streams, a sink and perhaps a journal that note why they fail, and where they note it.
+type Noted<I, W, R, E> = (
+    Troubles,
+    (Stream<I, R>, Stream<W, R>),
+    (TraceFolder<R, E>, Option<FolderJournal<R, E>>),
+);
 
-fn noted<R: Files + Alloc<A = Global> + Copy + Drop, I: Drop, W: Drop, E: Write + Drop>(
-    rt: &R,
-    folder: Option<&str>,
-    talk: (I, W),
-    error: E,
-) -> Result<Noted<I, W, R, E>, AllocError> {
+/// The same, with the chapters in the folder that the words name, if they name one.
+fn noted<
+    R: Files<File = File> + Alloc<A = Global> + Copy + Drop,
+    I: Drop,
+    W: Drop,
+    E: Write + Copy + Drop,
+>(rt: &R, live: &Live, talk: (I, W), error: E) -> Result<Noted<I, W, R, E>, AllocError> {
     let troubles = Troubles::new(rt.alloc())?;
     let talk = troubles.streams(rt, talk)?;
-    let sink = TraceFolder::new(rt, folder, troubles.folder()?, error)?;
-    Ok((troubles, talk, sink))
+    let folder = live.traces.as_deref();
+    // Where robots take turns, no errand blocks the fleet.
+    let may_block = live.planner.as_deref() != Some("turns");
+    let sink = TraceFolder::new(
+        rt,
+        (folder, live.journal),
+        troubles.folder()?,
+        error,
+        may_block,
+    )?;
+    let journal = match folder {
+        Some(folder) if live.journal => {
+            Some(FolderJournal::new(rt, folder, troubles.journal()?, error)?)
+        }
+        _ => None,
+    };
+    Ok((troubles, talk, (sink, journal)))
 }
 
 /// What the fleet of these words is kept with, its chapters in the folder that they name, if they name one. The error is
 /// the status, and is said.
 pub(crate) fn kit_of<
-    R: Files + Alloc<A = Global> + Copy + Drop,
+    R: Files<File = File> + Alloc<A = Global> + Copy + Drop,
     I: Drop,
     W: Drop,
     E: Write + Copy + Drop,
 >(rt: &R, live: &Live, talk: (I, W), error: &mut E) -> Result<Kit<I, W, R, E>, u8> {
-    let (troubles, talk, sink) = match noted(rt, live.traces.as_deref(), talk, *error) {
+    let (troubles, talk, (sink, journal)) = match noted(rt, live, talk, *error) {
         Ok(noted) => noted,
         Err(AllocError) => return Err(fail(InputFault::NoMemory, error)),
     };
@@ -253,5 +290,6 @@ pub(crate) fn kit_of<
         talk,
         told: (Outlet::Error(*error), figures),
         sink,
+        journal,
     })
 }

@@ -20,12 +20,16 @@ mod figures;
 mod files;
 mod folder;
 mod inputs;
+mod journal;
+mod journals;
 mod judge;
 mod kept_file;
 mod live;
 mod lock;
 mod map;
 mod piped;
+mod recalling;
+mod recovering;
 mod stats;
 mod streams;
 mod talk;
@@ -132,8 +136,8 @@ fn main(rt: HostRuntime) -> ExitCode {
             let name = live.traces.as_deref();
             let start = Start::of(live.resume, live.resume_only);
             match hold_folder(&rt, name, start) {
-                Ok((folder, kept)) => {
-                    tell_start(start, &kept, &mut error);
+                Ok((folder, found)) => {
+                    tell_start(start, &found, &mut error);
                     let streams = (rt.stdin(), rt.stdout());
                     let status = match kit_of(&rt, &live, streams, &mut error) {
                         Ok(
@@ -142,12 +146,14 @@ fn main(rt: HostRuntime) -> ExitCode {
                                 talk,
                                 told,
                                 sink,
+                                journal,
                             },
                         ) => {
                             let mut said = Vec::new(rt.alloc());
                             let ends = (error, &mut said);
                             // Called here, where it is known of the runtime that threads may share it.
-                            let status = hold_live(&rt, (&live, &kept), talk, told, ends, sink);
+                            let kept = (sink, journal);
+                            let status = hold_live(&rt, (&live, found), talk, told, ends, kept);
                             let folder = name.unwrap_or("");
                             troubles.tell(rt.alloc(), (status, &said), folder, &mut error);
                             status

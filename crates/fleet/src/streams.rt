@@ -35,6 +35,16 @@ impl Trouble {
         self.code.store(0, Ordering::SeqCst);
     }
 
+    /// Notes that something failed, and that it was said why.
+    pub(crate) fn note_said(&self) {
+        self.code.store(u64::MAX, Ordering::SeqCst);
+    }
+
+    /// Whether something failed, and it was said why.
+    pub(crate) fn was_said(&self) -> bool {
+        self.code.load(Ordering::SeqCst) == u64::MAX
+    }
+
     /// Notes an error.
     pub(crate) fn note(&self, fault: &io::Error) {
         if let Some(code) = fault.raw_os_error() {

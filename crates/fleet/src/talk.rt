@@ -4,12 +4,13 @@ ghost use Rattle.std.specs.Prelude.{◌≡◌, ◌≤◌, vec_len, IfOk};
 
 use crate::chapters::TraceFolder;
 use crate::ends::{FileFault, MOST_MAP_BYTES, complain, file_bytes};
-use crate::folder::{Start, complain_of_folder, hold_folder, tell_start};
+use crate::folder::{Found, Start, complain_of_folder, hold_folder, tell_start};
 use crate::kept_file::KeptFile;
+use crate::recovering::recover;
 use crate::troubles::Troubles;
 use fleet_lib::{
-    ChapterSink, Ends, InputFault, Settings, Talk, TalkTexts, complain_of_talk, fail, run_talk,
-    talk_settings,
+    ChapterSink, Ends, InputFault, Manner, Settings, Talk, TalkTexts, complain_of_talk, fail,
+    run_talk, talk_settings,
 };
 use std::alloc::{Alloc, AllocError, Global};
 use std::fs::{File, Files};
@@ -71,32 +72,41 @@ fn hold_talk<
     I: Read + Drop,
     W: Write + Drop,
     E: Write,
+    G: Write,
     S: ChapterSink + Drop,
 >(
     rt: &R,
     (talk, settings): (&Talk, Settings),
-    kept: &Option<KeptFile>,
+    found: Found,
     (input, output): (I, W),
-    error: &mut E,
+    (said, error): (&mut G, &mut E),
     sink: S,
 ) -> u8 {
     let (map, script) = match texts_of(rt, talk.map.as_str(), &talk.script) {
         Ok(texts) => texts,
         Err(fault) => {
             drop(input);
-            return complain(rt, fault, error);
+            return complain(rt, fault, said);
+        }
+    };
+    let folder = talk.traces.as_deref().unwrap_or("");
+    let kept = match recover(rt, (map.as_slice(), folder), found, error, said) {
+        Ok(kept) => kept,
+        Err(status) => {
+            drop(input);
+            return status;
         }
     };
     let Ok(input) = BufReader::with_capacity(rt.alloc(), PIECE, input) else {
-        return fail(InputFault::NoMemory, error);
+        return fail(InputFault::NoMemory, said);
     };
     let mut ends = Ends {
         input,
         output,
         sink,
     };
-    let texts = lent_texts(&map, &script, kept);
-    run_talk(rt, texts, settings, &mut ends, error)
+    let texts = lent_texts(&map, &script, &kept);
+    run_talk(rt, texts, settings, &mut ends, said)
 }
 
 /// Holds the conversation of these words, whose fleet goes on from a chapter if one is given. Returns the status.
@@ -108,7 +118,7 @@ fn talk_on<
 >(
     rt: &R,
     (talk, settings): (&Talk, Settings),
-    kept: &Option<KeptFile>,
+    found: Found,
     ends: (I, W),
     error: &mut E,
 ) -> Result<u8, AllocError> {
@@ -116,9 +126,10 @@ fn talk_on<
     let name = talk.traces.as_deref();
     let troubles = Troubles::new(alloc)?;
     let ends = troubles.streams(rt, ends)?;
-    let sink = TraceFolder::new(rt, name, troubles.folder()?, *error)?;
+    let may_block = settings.manner == Manner::Plain;
+    let sink = TraceFolder::new(rt, (name, false), troubles.folder()?, *error, may_block)?;
     let mut said = Vec::new(alloc);
-    let status = hold_talk(rt, (talk, settings), kept, ends, &mut said, sink);
+    let status = hold_talk(rt, (talk, settings), found, ends, (&mut said, error), sink);
     troubles.tell(alloc, (status, &said), name.unwrap_or(""), error);
     Ok(status)
 }
@@ -138,9 +149,9 @@ pub(crate) fn talk_in_folder<
     let name = talk.traces.as_deref();
     let start = Start::of(talk.resume, talk.resume_only);
     match hold_folder(rt, name, start) {
-        Ok((folder, kept)) => {
-            tell_start(start, &kept, error);
-            let status = match talk_on(rt, (talk, settings), &kept, ends, error) {
+        Ok((folder, found)) => {
+            tell_start(start, &found, error);
+            let status = match talk_on(rt, (talk, settings), found, ends, error) {
                 Ok(status) => status,
                 Err(AllocError) => fail(InputFault::NoMemory, error),
             };

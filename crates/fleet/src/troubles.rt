@@ -1,4 +1,4 @@
-//! What failed while a fleet was kept: standard input, standard output, or the folder of chapters.
+//! What failed while a fleet was kept: standard input, standard output, the folder of chapters, or a journal.
 
 use crate::streams::{Stream, Trouble};
 use fleet_lib::{InputFault, fail, write_whole};
@@ -12,6 +12,7 @@ pub(crate) struct Troubles {
     input: Arc<Trouble>,
     output: Arc<Trouble>,
     folder: Arc<Trouble>,
+    journal: Arc<Trouble>,
 }
 
 impl Troubles {
@@ -20,6 +21,7 @@ impl Troubles {
             input: Trouble::none(alloc)?,
             output: Trouble::none(alloc)?,
             folder: Trouble::none(alloc)?,
+            journal: Trouble::none(alloc)?,
         })
     }
 
@@ -38,6 +40,11 @@ impl Troubles {
     /// What the folder's sink shares.
     pub(crate) fn folder(&self) -> Result<Arc<Trouble>, AllocError> {
         Arc::try_clone(&self.folder)
+    }
+
+    /// What the folder's journal shares.
+    pub(crate) fn journal(&self) -> Result<Arc<Trouble>, AllocError> {
+        Arc::try_clone(&self.journal)
     }
 
     /// The line for what failed, if something did.
@@ -69,6 +76,9 @@ impl Troubles {
     ) {
         if status == 7 {
             fail(InputFault::NoMemory, error);
+            return;
+        }
+        if status == 3 && self.journal.was_said() {
             return;
         }
         let named = if status == 3 {

@@ -25,13 +25,13 @@ use Rattle.fleet_c.proofs.InTurn.{item-at}
 
 module _ {A : Type 0} where
   same_world : (w n : World A) → n ≡ w → IsSameFleet w n
-  same_world w n e = subst (IsSameFleet w) (sym e) (record { floor = refl; robots = refl })
+  same_world w n e = subst (IsSameFleet w) (sym e) (record { floor = refl; robots = refl; turns = refl })
 
   same_on : (w m n : World A) → IsSameFleet w m → IsSameFleet m n → IsSameFleet w n
-  same_on w m n p q = record { floor = q.floor ∙ p.floor; robots = q.robots ∙ p.robots }
+  same_on w m n p q = record { floor = q.floor ∙ p.floor; robots = q.robots ∙ p.robots; turns = q.turns ∙ p.turns }
 
   taken_same : (w n : World A) (client : ℕ) (order : Order) (told : Judgement) (answer : Result Verdict TakeFault) → IfOk answer (λ v. Takes w client order v n × (told ≡ judgement_of v)) → OnErr answer (n ≡ w) → IsSameFleet w n
-  taken_same w n client order told (Ok v) takes same = subst (IsSameFleet w) (sym takes.0.world) (record { floor = refl; robots = refl })
+  taken_same w n client order told (Ok v) takes same = subst (IsSameFleet w) (sym takes.0.world) (record { floor = refl; robots = refl; turns = refl })
   taken_same w n client order told (Err e) takes same = same_world w n same
 
   pub goes_same : (cells : List Bool) (w n : World A) (client code : ℕ) (order : Order) (told : Judgement) → LetsIn cells w client order code told n → IsSameFleet w n
@@ -58,15 +58,15 @@ module _ {A : Type 0} where
   batch_same cells w n requests before after code count taken = took_same cells w n requests after (record { number = 0; kind = 0; client = 0; robot = 0; cell = 0 }) (record { number = 0; verdict = 0 }) count taken.fit taken.taken
 
   given_same : (w : World A) (client k : ℕ) → IsSameFleet w (without_many w client k)
-  given_same w client zero = record { floor = refl; robots = refl }
-  given_same w client (suc k) = let p = given_same w client k in record { floor = p.floor; robots = p.robots }
+  given_same w client zero = record { floor = refl; robots = refl; turns = refl }
+  given_same w client (suc k) = let p = given_same w client k in record { floor = p.floor; robots = p.robots; turns = p.turns }
 
   pub gives_same : (w n : World A) (client count : ℕ) (before after : List Note) → AreGiven w client before after count n → IsSameFleet w n
   gives_same w n client count before after given = subst (IsSameFleet w) (sym given.world) (given_same w client count)
 
   pub turns_same : (w n : World A) (code : ℕ) → IsTurned w code n → IsSameFleet w n
   turns_same w n code turned = elim (cases_eq code DONE) [
-    | inl done ↦ subst (IsSameFleet w) (sym (turned.turns done)) (record { floor = refl; robots = next-robots w.history })
+    | inl done ↦ subst (IsSameFleet w) (sym (turned.turns done)) (record { floor = refl; robots = next-robots w.history; turns = refl })
     | inr other ↦ same_world w n (turned.same other)
   ]
 
@@ -77,14 +77,14 @@ module _ {A : Type 0} where
   ]
 
   ticked_same : (w n : World A) (report : Report) (answer : Result TickReport TickFault) → IfOk answer (λ did. Ticks w did n × (report ≡ report_of did)) → OnErr answer (n ≡ w) → IsSameFleet w n
-  ticked_same w n report (Ok did) ticks same = subst (IsSameFleet w) (sym ticks.0.world) (record { floor = refl; robots = refl })
+  ticked_same w n report (Ok did) ticks same = subst (IsSameFleet w) (sym ticks.0.world) (record { floor = refl; robots = refl; turns = refl })
   ticked_same w n report (Err e) ticks same = same_world w n same
 
   pub ticks_same : (w n : World A) (code : ℕ) (report : Report) → IsTicked w code report n → IsSameFleet w n
   ticks_same w n code report is = ticked_same w n report is.answer is.ticks is.same
 
   shut_same : (w n : World A) (robot : ℕ) (left : Bool) (answer : Result (Option ℕ) ShutFault) → IfOk answer (λ farewell. Shuts w robot farewell n × (left ≡ is_some farewell)) → OnErr answer (n ≡ w) → IsSameFleet w n
-  shut_same w n robot left (Ok farewell) shuts same = subst (IsSameFleet w) (sym shuts.0.world) (record { floor = refl; robots = refl })
+  shut_same w n robot left (Ok farewell) shuts same = subst (IsSameFleet w) (sym shuts.0.world) (record { floor = refl; robots = refl; turns = refl })
   shut_same w n robot left (Err e) shuts same = same_world w n same
 
   pub shuts_same : (w n : World A) (robot code : ℕ) (left : Bool) → IsShut w robot code left n → IsSameFleet w n
@@ -93,7 +93,7 @@ module _ {A : Type 0} where
   first_same : (w n : World A) (client code : ℕ) (note : Note) (first : Option Notice)
       → MatchOption first ((code ≡ NO_NOTICE) × (n ≡ w)) (λ notice. (code ≡ DONE) × (note ≡ note_of notice) × (n ≡ without_first w client)) → IsSameFleet w n
   first_same w n client code note None says = same_world w n says.1
-  first_same w n client code note (Some notice) says = subst (IsSameFleet w) (sym says.2) (record { floor = refl; robots = refl })
+  first_same w n client code note (Some notice) says = subst (IsSameFleet w) (sym says.2) (record { floor = refl; robots = refl; turns = refl })
 
   pub one_given_same : (w n : World A) (client code : ℕ) (note : Note) → Gives w client code note n → IsSameFleet w n
   one_given_same w n client code note says = elim (cases_lt client (clients w.history)) [
@@ -103,7 +103,7 @@ module _ {A : Type 0} where
 
   widened_same : (w n : World A) (client extra code : ℕ) → IsWidened w client extra code n → IsSameFleet w n
   widened_same w n client extra code is = elim (cases_eq code DONE) [
-    | inl done ↦ subst (IsSameFleet w) (sym (is.widens done)) (record { floor = refl; robots = refl })
+    | inl done ↦ subst (IsSameFleet w) (sym (is.widens done)) (record { floor = refl; robots = refl; turns = refl })
     | inr other ↦ same_world w n (is.same other)
   ]
 

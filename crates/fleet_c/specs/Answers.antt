@@ -1,5 +1,5 @@
 -- What each call answers C, for the world before and after it.
-use Rattle.std.specs.Prelude.{ℕ, ◌+◌, ◌^◌, ◌≡◌, ◌≢◌, ◌<◌, ◌≤◌, ◌↔◌, Bool, true, Option, is_some, Result, Err, IfOk, OnErr, MatchOption, slice_get}
+use Rattle.std.specs.Prelude.{ℕ, ◌+◌, ◌^◌, ◌≡◌, ◌≢◌, ◌<◌, ◌≤◌, ◌↔◌, [], Bool, true, Option, is_some, Result, Err, IfOk, OnErr, MatchOption, slice_get}
 use Rattle.fleet_book.specs.declared.order.Order.{Order}
 use Rattle.fleet_book.specs.declared.verdict.Verdict.{Verdict}
 use Rattle.fleet_bound.specs.Arriving.{ArrivesInTurn}
@@ -11,10 +11,10 @@ use Rattle.fleet_core.specs.declared.faults.TickFault.{TickFault}
 use Rattle.fleet_core.specs.declared.faults.TickFault.TheVariants as tick
 use Rattle.fleet_core.specs.declared.faults.ShutFault.{ShutFault}
 use Rattle.fleet_core.specs.declared.faults.ShutFault.TheVariants as shut
-use Rattle.fleet_core.specs.Core.{World, Takes, Ticks, Shuts, pending, without_first, widened, next_world, HasRoom, HasNoRoom, HasNoEntries}
+use Rattle.fleet_core.specs.Core.{World, Takes, TakesTurns, Ticks, Shuts, pending, without_first, widened, next_world, HasRoom, HasNoRoom, HasNoEntries}
 use Rattle.fleet_c.specs.Forms.{report_of, judgement_of, note_of}
 use Rattle.fleet_c.specs.Codes.{take_code, tick_code, shut_code}
-use Rattle.fleet_c.specs.declared.codes.TheConstants.{DONE, NO_MEMORY, NO_CLIENT, BOOK_SPENT, NO_NOTICE, TOO_WIDE}
+use Rattle.fleet_c.specs.declared.codes.TheConstants.{DONE, NO_MEMORY, NO_CLIENT, BOOK_SPENT, CHAPTER_BEGUN, NO_NOTICE, NO_TURNS, TOO_WIDE}
 use Rattle.fleet_c.specs.declared.judgement.Judgement.{Judgement}
 use Rattle.fleet_c.specs.declared.note.Note.{Note}
 use Rattle.fleet_c.specs.declared.report.Report.{Report}
@@ -88,3 +88,12 @@ pub record IsTurned {A : Type 0} (w : World A) (code : ℕ) (n : World A) : Type
   pub turns : code ≡ DONE → n ≡ next_world w
   pub same : code ≢ DONE → n ≡ w
   pub refused : code ≢ DONE → code ≢ BOOK_SPENT → code ≡ NO_MEMORY
+
+-- ---- turns
+
+-- the robots take turns from now on, if the chapter has no entry yet
+pub record IsTakingTurns {A : Type 0} (w : World A) (code : ℕ) (n : World A) : Type 0 where
+  pub begun : (code ≡ CHAPTER_BEGUN) ↔ (w.history.entries ≢ [])
+  pub taken : code ≡ DONE → TakesTurns w n
+  pub same : code ≢ DONE → n ≡ w
+  pub refused : code ≢ DONE → code ≢ CHAPTER_BEGUN → code ≢ NO_TURNS → code ≡ NO_MEMORY

@@ -35,7 +35,8 @@ KnowsRoom None client cell code = Unit {0}
 KnowsRoom (Some f) client cell code = (roomy : Bool) → Refuses roomy f
     → (code ≡ NO_ROOM) ↔ ((roomy ≡ true) × (client < clients f.core.history) × IsUnroomyCell f.core.floor (robots f.core.history) cell)
 
--- a world of the same map and as many robots
+-- a world of the same map and as many robots, which take the same turns
 pub record IsSameFleet {A : Type 0} (w n : World A) : Type 0 where
   pub floor : n.floor ≡ w.floor
   pub robots : robots n.history ≡ robots w.history
+  pub turns : n.turns ≡ w.turns

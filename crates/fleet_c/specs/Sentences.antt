@@ -14,7 +14,8 @@ call_text code =
     else if code == 15 then codes "a list has not the length that the call asks for"
     else if code == 16 then codes "a pointer is null"
     else if code == 17 then codes "there is no kind of orders of this number"
-    else codes "the cell is not roomy for the fleet's robots"
+    else if code == 18 then codes "the cell is not roomy for the fleet's robots"
+    else codes "the chapter has an entry: robots take turns from the beginning of a chapter on"
 
 abbrev pub fleet_text : ℕ → List ℕ
 fleet_text code =
@@ -39,7 +40,8 @@ open_text code =
     else if code == 31 then codes "there are not 1 to 512 robots"
     else if code == 32 then codes "robot # starts on a cell that is no floor"
     else if code == 33 then codes "robots # and % both start on one cell"
-    else codes "the setup has not the size that this library reads: it was made with another header"
+    else if code == 34 then codes "the setup has not the size that this library reads: it was made with another header"
+    else codes "the rooms that were found on the map do not pass their checks: robots take no turns"
 
 abbrev pub step_text : ℕ → List ℕ
 step_text code =
@@ -94,10 +96,10 @@ is_in least end n = nat_le least n && nat_lt n end
 abbrev pub sentence_of : ℕ → List ℕ
 sentence_of code =
     if nat_lt code 6 then call_text code
-    else if is_in 15 19 code then call_text code
+    else if is_in 15 20 code then call_text code
     else if nat_lt code 15 then fleet_text code
     else if is_in 20 25 code then open_text code
-    else if is_in 30 35 code then open_text code
+    else if is_in 30 36 code then open_text code
     else if is_in 40 50 code then step_text code
     else if is_in 50 58 code then trace_text code
     else if is_in 60 67 code then execution_text code

@@ -1,5 +1,5 @@
 -- What a call that only looks at a world answers C.
-use Rattle.std.specs.Prelude.{ℕ, ◌≡◌, ◌≢◌, ◌<◌, ◌≤◌, ◌^◌, ◌↔◌, ◌++◌, List, drop, length, Option, Some, MatchOption, slice_get}
+use Rattle.std.specs.Prelude.{ℕ, ◌≡◌, ◌≢◌, ◌<◌, ◌≤◌, ◌^◌, ◌↔◌, ◌++◌, List, drop, length, Option, Some, None, MatchOption, slice_get}
 use Rattle.fleet_bound.specs.Arriving.{IsIdleWithin}
 use Rattle.fleet_bound.specs.Bound.{wait_bound}
 use Rattle.fleet_bound.specs.Roomy.{HasBound}
@@ -33,11 +33,11 @@ abbrev pub Places : {A : Type 0} → World A → ℕ → List ℕ → List ℕ �
 Places w code before after = (length before ≡ length (place w.history) → (code ≡ DONE) × (after ≡ place w.history))
     × (length before ≢ length (place w.history) → (code ≡ WRONG_LENGTH) × (after ≡ before))
 
--- how many ticks the robot has waited; below the bound if all errands go to roomy cells, as all cells are on a map without bridges
+-- how many ticks the robot has waited; without turns below the bound if all errands go to roomy cells, as all cells are on a map without bridges
 abbrev pub IsWaiting : {A : Type 0} → World A → ℕ → ℕ → ℕ → Type 0
 IsWaiting w robot code ticks = MatchOption (wait w.history robot)
     (code ≡ IDLE)
-    (λ t. (code ≡ DONE) × (ticks ≡ t) × (HasBound w.floor w.history → t < wait_bound w.floor w.history))
+    (λ t. (code ≡ DONE) × (ticks ≡ t) × (w.turns ≡ None → HasBound w.floor w.history → t < wait_bound w.floor w.history))
 
 abbrev pub Waits : {A : Type 0} → World A → ℕ → ℕ → ℕ → Type 0
 Waits w robot code ticks = OfCounted (robots w.history) robot NO_ROBOT code (IsWaiting w robot code ticks)

@@ -39,6 +39,8 @@ pub const NULL_POINTER: u32 = 16;
 pub const BAD_ORDER: u32 = 17;
 /// The cell is not roomy for the fleet's robots. Of a fleet that goes on: that of an unfinished errand.
 pub const NO_ROOM: u32 = 18;
+/// The chapter has an entry.
+pub const CHAPTER_BEGUN: u32 = 19;
 
 /// The line of the map's head is missing or not in its form.
 pub const MAP_HEADER: u32 = 20;
@@ -61,6 +63,8 @@ pub const START_BLOCKED: u32 = 32;
 pub const START_SHARED: u32 = 33;
 /// The setup is not of this library's size: another header was used.
 pub const WRONG_SIZE: u32 = 34;
+/// The rooms that were found, in which robots would take turns, do not pass their checks.
+pub const NO_TURNS: u32 = 35;
 
 /// More robots are named than the map has cells.
 pub const TOO_MANY: u32 = 40;

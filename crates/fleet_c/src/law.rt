@@ -17,7 +17,8 @@ fn gives_leave_the_rest<A>()
 {}
 
 /// No call changes a fleet's map, nor how many robots it has: so the cells that it refuses, which no call changes either,
-/// are those that are not roomy for its robots for as long as it is open.
+/// are those that are not roomy for its robots for as long as it is open. Nor does one change which turns they take: none,
+/// as at its opening.
 fn calls_keep_the_fleet<A>()
     ensures goes { (cells : List Bool) (w n : World A) (client code : ℕ) (order : Order) (told : Judgement) → LetsIn cells w client order code told n → IsSameFleet w n }
     ensures orders { (w n : World A) (client code : ℕ) (order : Order) (told : Judgement) → Orders w client order code told n → IsSameFleet w n }

@@ -61,6 +61,7 @@ mod standing;
 mod standings;
 mod step_refusal;
 mod ticks;
+mod turning;
 mod verdicts;
 mod version;
 mod views;

@@ -18,7 +18,8 @@ fn call_text(code: u32) -> &'static str
         15 => "a list has not the length that the call asks for",
         16 => "a pointer is null",
         17 => "there is no kind of orders of this number",
-        _ => "the cell is not roomy for the fleet's robots",
+        18 => "the cell is not roomy for the fleet's robots",
+        _ => "the chapter has an entry: robots take turns from the beginning of a chapter on",
     }
 }
 
@@ -57,9 +58,10 @@ fn open_text(code: u32) -> &'static str
         31 => "there are not 1 to 512 robots",
         32 => "robot # starts on a cell that is no floor",
         33 => "robots # and % both start on one cell",
-        _ => {
+        34 => {
             "the setup has not the size that this library reads: it was made with another header"
         }
+        _ => "the rooms that were found on the map do not pass their checks: robots take no turns",
     }
 }
 
@@ -137,11 +139,11 @@ pub(crate) fn sentence_of(code: u32) -> &'static str
     ensures text { result.now ≡ sentence_of code }
     ensures short { length result.now ≤ 120 }
 {
-    if code < 6 || (15 <= code && code < 19) {
+    if code < 6 || (15 <= code && code < 20) {
         call_text(code)
     } else if code < 15 {
         fleet_text(code)
-    } else if (20 <= code && code < 25) || (30 <= code && code < 35) {
+    } else if (20 <= code && code < 25) || (30 <= code && code < 36) {
         open_text(code)
     } else if 40 <= code && code < 50 {
         step_text(code)

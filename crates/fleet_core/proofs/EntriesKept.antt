@@ -16,13 +16,14 @@ use Rattle.fleet_history.specs.History.{History, after, robots, clients, clock, 
 use Rattle.fleet_history.specs.Legal.{Fits, IsTickAfter, due_of, due}
 use Rattle.fleet_history.specs.Verdicts.{IsVerdict}
 use Rattle.fleet_history.proofs.Ticks.{each_tick-shut, each_tick-take, each_tick-tick}
-use Rattle.fleet_planner.specs.Planned.{IsPlanned}
+use Rattle.turns_law.specs.Turns.{Turns}
+use Rattle.mover.specs.Moving.{Mover, IsPlannedAs}
 use Rattle.fleet_bound.proofs.Roomy.{roomy-tick}
 use Rattle.fleet_state.specs.Follows.{MayFollow}
 use Rattle.fleet_state.specs.State.{State, IsStateOf}
 use Rattle.fleet_state.proofs.Parts.{cells-of, waits-of}
 use Rattle.fleet_core.specs.declared.faults.TickReport.{TickReport}
-use Rattle.fleet_planner.specs.Aimed.{Planner, begun, begun_goals, goals_ticked}
+use Rattle.fleet_planner.specs.Aimed.{begun, begun_goals, goals_ticked}
 use Rattle.fleet_core.specs.Core.{World, Takes, Ticks, Shuts}
 use Rattle.fleet_core.specs.inside.Kept.{IsKept}
 use Rattle.fleet_core.specs.inside.Mailboxes.{Mailboxes, box_at, with_notice, AreDelivered}
@@ -30,11 +31,12 @@ use Rattle.fleet_core.specs.Pending.{Pending}
 use Rattle.fleet_core.specs.inside.Ready.{IsStep, IsOnSame}
 use Rattle.fleet_planner.proofs.GoalsKept.{aimed-shut, aimed-take, aimed-tick}
 use Rattle.fleet_core.proofs.CoreKept.{noticed-of, noticed-small, room-kept, boxes-shut, boxes-take, boxes-tick, delivered-shut, taken-boxes, ticked-boxes, within-shut, within-take, within-tick}
+use Rattle.fleet_core.proofs.Manners.{turns-as, ties-as, plain-tick}
 use Rattle.fleet_core.proofs.TickFacts.{arrived-clients, arrived-few, arrived-owed, arrived-robots}
 
 -- what contracts see of a core that keeps these
-abbrev pub world_of : {A : Type 0} → Floor → Limits → List TieLaw → ℕ → History A → Mailboxes → World A
-world_of m limits ties n h x = record { floor = m; limits = limits; ties = ties; number = n; history = h; mailboxes = x.boxes }
+abbrev pub world_of : {A : Type 0} → Floor → Limits → List TieLaw → Option Turns → ℕ → History A → Mailboxes → World A
+world_of m limits ties turns n h x = record { floor = m; limits = limits; ties = ties; turns = turns; number = n; history = h; mailboxes = x.boxes }
 
 first-of : (a b l : ℕ) → a + b + 2 ≤ l → a < l
 first-of a b l most = omega arith
@@ -42,7 +44,7 @@ first-of a b l most = omega arith
 next-small : (n k : ℕ) → n ≡ k → k + 512 < 2 ^ 60 → n + 1 < 2 ^ 64
 next-small n k same small = omega arith
 
-module _ {A : Type 0} {m : Floor} {limits : Limits} {ties : List TieLaw} {n : ℕ} {h : History A} {s : State A} {p : Planner} {x : Mailboxes} (k : IsKept m limits ties n h s p x) where
+module _ {A : Type 0} {m : Floor} {limits : Limits} {ties : List TieLaw} {n : ℕ} {h : History A} {s : State A} {p : Mover} {x : Mailboxes} (k : IsKept m limits ties n h s p x) where
   -- an entry that fits may follow
   pub may-follow : (e : Entry A) → Fits m h e → MayFollow s e
   may-follow e fits = record {
@@ -67,23 +69,25 @@ module _ {A : Type 0} {m : Floor} {limits : Limits} {ties : List TieLaw} {n : �
     notice-room = first-of (length (box_at x.boxes c).notices) (owed h c) (box_at x.boxes c).limit
 
     module _ (order : Order) (v : Verdict) (is : IsVerdict m h c order v) (number : ℕ) (taken : number ≡ taken_count (after {A = A} h (entry.Take c order v)) c) where
-      pub takes-so : Takes (world_of m limits ties n h x) c order v (world_of m limits ties n (after h (entry.Take c order v)) (with_notice x c (notice.Verdict (slice_index x.noticed c + 1) number v)))
-      takes-so = record {
+      pub takes-so : {q : Mover} → IsOnSame m p q → Takes (world_of m limits ties p.turns n h x) c order v (world_of m limits ties q.turns n (after h (entry.Take c order v)) (with_notice x c (notice.Verdict (slice_index x.noticed c + 1) number v)))
+      takes-so same = record {
         verdict = is;
-        world = ap (λ (boxes : List Pending). record { floor = m; limits = limits; ties = ties; number = n; history = after h (entry.Take c order v); mailboxes = boxes })
+        world = ap (λ (turns : Option Turns). world_of m limits ties turns n (after h (entry.Take c order v)) (with_notice x c (notice.Verdict (slice_index x.noticed c + 1) number v))) same.turns
+            ∙ ap (λ (boxes : List Pending). record { floor = m; limits = limits; ties = ties; turns = p.turns; number = n; history = after h (entry.Take c order v); mailboxes = boxes })
             (taken-boxes k.is.legal k.boxed c order v known is (slice_index x.noticed c + 1) number refl taken);
       }
 
-      pub kept-take : {t : State A} {q : Planner} → length h.entries < limits.chapter → IsStateOf m (after h (entry.Take c order v)) t → t.rooms ≡ s.rooms →
-          goals_of q.aims ≡ begun_goals (begun s.queues order v) (goals_of p.aims) → IsOnSame m p q → length (box_at x.boxes c).notices + owed h c + 2 ≤ (box_at x.boxes c).limit →
+      pub kept-take : {t : State A} {q : Mover} → length h.entries < limits.chapter → IsStateOf m (after h (entry.Take c order v)) t → t.rooms ≡ s.rooms →
+          goals_of q.planner.aims ≡ begun_goals (begun s.queues order v) (goals_of p.planner.aims) → IsOnSame m p q → length (box_at x.boxes c).notices + owed h c + 2 ≤ (box_at x.boxes c).limit →
           IsKept m limits ties n (after h (entry.Take c order v)) t q (with_notice x c (notice.Verdict (slice_index x.noticed c + 1) number v))
-      kept-take few next rooms goals same room = record {
+      kept-take {q = q} few next rooms goals same room = record {
         is = next;
         room = room-kept k.is next refl rooms k.room;
         within = within-take k.within c order v few;
         boxed = boxes-take k.is.legal k.boxed c order v known is (slice_index x.noticed c + 1) number refl taken room;
         aimed = aimed-take k.is k.aimed c order v is goals same.on same.size same.bridge same.keeps;
-        tied = record { count = k.tied.count; planned = each_tick-take (IsPlanned m ties) h c order v k.tied.planned };
+        turns = turns-as m (robots h) p.turns q.turns same.turns k.turns;
+        tied = ties-as same.turns (record { count = k.tied.count; planned = each_tick-take (IsPlannedAs p.turns m ties) h c order v k.tied.planned });
         bounded = k.bounded;
       }
 
@@ -107,41 +111,43 @@ module _ {A : Type 0} {m : Floor} {limits : Limits} {ties : List TieLaw} {n : �
         omega (arith, k.boxed.room c (omega (arith, k.boxed.count)), arrived-owed m h k.is.legal to come shows c)
 
   -- the step by what is kept is one by the history
-  pub planned-so : {to : List ℕ} {come : List Arrival} {gone : List Bye} → IsStep m ties s (goals_of p.aims) to come gone → IsPlanned m ties h to
+  pub planned-so : {to : List ℕ} {come : List Arrival} {gone : List Bye} → IsStep m p.turns ties s (goals_of p.planner.aims) to come gone → IsPlannedAs p.turns m ties h to
   planned-so step = rw (waits-of k.is, k.aimed.aimed, cells-of k.is) at step.planned
 
-  module _ {to : List ℕ} {come : List Arrival} {gone : List Bye} (fits : IsTickAfter m h to come gone) (planned : IsPlanned m ties h to) (tick : ℕ) (at : tick ≡ clock h + 1) {y : Mailboxes} (told : AreDelivered come to tick x y) where
-    pub ticks-so : {report : TickReport} → report ≡ record { tick = tick; arrived = length come; farewells = length gone } →
-        Ticks (world_of m limits ties n h x) report (world_of m limits ties n (after h (entry.Tick to come gone)) y)
-    ticks-so reported = record {
+  module _ {to : List ℕ} {come : List Arrival} {gone : List Bye} (fits : IsTickAfter m h to come gone) (planned : IsPlannedAs p.turns m ties h to) (tick : ℕ) (at : tick ≡ clock h + 1) {y : Mailboxes} (told : AreDelivered come to tick x y) where
+    pub ticks-so : {report : TickReport} {q : Mover} → IsOnSame m p q → report ≡ record { tick = tick; arrived = length come; farewells = length gone } →
+        Ticks (world_of m limits ties p.turns n h x) report (world_of m limits ties q.turns n (after h (entry.Tick to come gone)) y)
+    ticks-so same reported = record {
       to = to;
       arrived = come;
       farewells = gone;
       fits = fits;
       planned = planned;
-      advancing = roomy-tick m ties h to k.is.legal planned;
-      world = ap (λ (boxes : List Pending). record { floor = m; limits = limits; ties = ties; number = n; history = after h (entry.Tick to come gone); mailboxes = boxes })
+      advancing = λ none. roomy-tick m ties h to k.is.legal (plain-tick m ties h to p.turns none planned);
+      world = ap (λ (turns : Option Turns). world_of m limits ties turns n (after h (entry.Tick to come gone)) y) same.turns
+          ∙ ap (λ (boxes : List Pending). record { floor = m; limits = limits; ties = ties; turns = p.turns; number = n; history = after h (entry.Tick to come gone); mailboxes = boxes })
           (ticked-boxes k.is.legal k.boxed to come gone tick at told);
       tick = ap (λ (r : TickReport). r.tick) reported ∙ at;
       arrived_count = ap (λ (r : TickReport). r.arrived) reported;
       farewell_count = ap (λ (r : TickReport). r.farewells) reported;
     }
 
-    pub kept-tick : {t : State A} {q : Planner} → length h.entries < limits.chapter → clock h < limits.clock → IsStateOf m (after h (entry.Tick to come gone)) t → t.rooms ≡ s.rooms →
-        goals_of q.aims ≡ goals_ticked s.queues to → IsOnSame m p q → IsKept m limits ties n (after h (entry.Tick to come gone)) t q y
-    kept-tick few early next rooms goals same = record {
+    pub kept-tick : {t : State A} {q : Mover} → length h.entries < limits.chapter → clock h < limits.clock → IsStateOf m (after h (entry.Tick to come gone)) t → t.rooms ≡ s.rooms →
+        goals_of q.planner.aims ≡ goals_ticked s.queues to → IsOnSame m p q → IsKept m limits ties n (after h (entry.Tick to come gone)) t q y
+    kept-tick {q = q} few early next rooms goals same = record {
       is = next;
       room = room-kept k.is next refl rooms k.room;
       within = within-tick k.within to come gone few early;
       boxed = boxes-tick k.is.legal k.boxed to come gone tick at told fits.shows;
       aimed = aimed-tick k.is k.aimed to come gone fits.shows goals same.on same.size same.bridge same.keeps;
-      tied = record { count = k.tied.count; planned = each_tick-tick (IsPlanned m ties) h to come gone k.tied.planned planned };
+      turns = turns-as m (robots h) p.turns q.turns same.turns k.turns;
+      tied = ties-as same.turns (record { count = k.tied.count; planned = each_tick-tick (IsPlannedAs p.turns m ties) h to come gone k.tied.planned planned });
       bounded = k.bounded;
     }
 
   -- ---- shuts
 
-  pub shuts-so : (robot : ℕ) (farewell : Option ℕ) → Fits {A = A} m h (entry.Shut robot farewell) → Shuts (world_of m limits ties n h x) robot farewell (world_of m limits ties n (after h (entry.Shut robot farewell)) x)
+  pub shuts-so : (robot : ℕ) (farewell : Option ℕ) → Fits {A = A} m h (entry.Shut robot farewell) → Shuts (world_of m limits ties p.turns n h x) robot farewell (world_of m limits ties p.turns n (after h (entry.Shut robot farewell)) x)
   shuts-so robot farewell fits = record {
     fits = fits;
     world = rw (delivered-shut h robot farewell x.boxes) refl;
@@ -155,6 +161,7 @@ module _ {A : Type 0} {m : Floor} {limits : Limits} {ties : List TieLaw} {n : �
     within = within-shut k.within robot farewell few;
     boxed = boxes-shut k.is.legal k.boxed robot farewell;
     aimed = aimed-shut k.is k.aimed robot farewell;
-    tied = record { count = k.tied.count; planned = each_tick-shut (IsPlanned m ties) h robot farewell k.tied.planned };
+    turns = k.turns;
+    tied = record { count = k.tied.count; planned = each_tick-shut (IsPlannedAs p.turns m ties) h robot farewell k.tied.planned };
     bounded = k.bounded;
   }

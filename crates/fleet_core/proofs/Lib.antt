@@ -7,6 +7,7 @@ pub mod EntriesKept
 pub mod OpeningFacts
 pub mod ClosuresKept
 pub mod TickFacts
+pub mod Manners
 pub mod WaitBound
 pub mod Matches
 pub mod OneMailbox

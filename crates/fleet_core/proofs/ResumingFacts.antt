@@ -8,11 +8,11 @@ use Rattle.fleet_hooks.specs.declared.law.StampLaw.{StampLaw}
 use Rattle.fleet_history.specs.declared.history.ClientState.{ClientState}
 use Rattle.fleet_history.specs.declared.history.Opening.{Opening}
 use Rattle.fleet_history.specs.declared.history.RobotState.{RobotState}
-use Rattle.fleet_history.specs.History.{History, start, clients, owed, unknown_client}
+use Rattle.fleet_history.specs.History.{History, start, robots, clients, owed, unknown_client}
 use Rattle.fleet_history.specs.Notices.{noticed_count}
 use Rattle.fleet_history.proofs.Ticks.{each_tick-start}
-use Rattle.fleet_planner.specs.Aimed.{Planner}
-use Rattle.fleet_planner.specs.Planned.{IsPlanned}
+use Rattle.mover.specs.Moving.{Mover, IsPlannedAs}
+use Rattle.fleet_core.proofs.Manners.{no-turns}
 use Rattle.fleet_state.specs.State.{State}
 use Rattle.fleet_state.proofs.Parts.{length-by, item-by, listed}
 use Rattle.fleet_core.specs.Hooks.{HookLaws, law_at, AreArrivals, AreFarewells}
@@ -29,7 +29,7 @@ within_max a b = omega arith
 none_le : (n : ℕ) → 0 ≤ n
 none_le n = omega arith
 
-boxes-resumed : {A : Type 0} {m : Floor} {o : Opening A} {limits : Limits} {s : State A} {p : Planner} {x : Mailboxes} → AreResumed m o limits s p x → AreBoxes (start o) x
+boxes-resumed : {A : Type 0} {m : Floor} {o : Opening A} {limits : Limits} {s : State A} {p : Mover} {x : Mailboxes} → AreResumed m o limits s p x → AreBoxes (start o) x
 boxes-resumed {A = A} {o = o} {limits = limits} {x = x} r =
     let h : History A = start o in
     let at : (c : ℕ) → c < clients h → box_at x.boxes c ≡ empty_box h limits.mailbox c =
@@ -42,7 +42,7 @@ boxes-resumed {A = A} {o = o} {limits = limits} {x = x} r =
           (λ c l. get_or-map (λ (k : ClientState). k.noticed) o.clients c unknown_client 0 l ∙ sym (add-zero (get_or o.clients c unknown_client).noticed));
     }
 
-pub kept-resumed : {A : Type 0} (m : Floor) (number : ℕ) (o : Opening A) (limits : Limits) (laws : HookLaws) (s : State A) (p : Planner) (x : Mailboxes) →
+pub kept-resumed : {A : Type 0} (m : Floor) (number : ℕ) (o : Opening A) (limits : Limits) (laws : HookLaws) (s : State A) (p : Mover) (x : Mailboxes) →
     CanResume m number o limits laws → AreResumed m o limits s p x → IsKept m limits laws.ties number (start o) s p x
 kept-resumed m number o limits laws s p x can r = record {
   is = r.is;
@@ -56,7 +56,8 @@ kept-resumed m number o limits laws s p x can r = record {
   };
   boxed = boxes-resumed r;
   aimed = r.aimed;
-  tied = record { count = can.hooks.ties; planned = each_tick-start (IsPlanned m laws.ties) o };
+  turns = no-turns m (robots (start o)) p.turns r.plain;
+  tied = record { count = can.hooks.ties; planned = each_tick-start (IsPlannedAs p.turns m laws.ties) o };
   bounded = can.bounded;
 }
 

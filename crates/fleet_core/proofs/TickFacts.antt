@@ -21,6 +21,7 @@ use Rattle.fleet_history.proofs.After.{shut-after}
 use Rattle.fleet_history.proofs.Arrivals.{unfinished-after_tick}
 use Rattle.fleet_history.proofs.Legal.{All-single, All-from_map, head_all, legal-known_unfinished, legal-opening}
 use Rattle.fleet_history.proofs.Owed.{owed-after_tick}
+use Rattle.turns_law.specs.Turns.{Turns}
 use Rattle.fleet_state.specs.State.{State, IsStateOf}
 use Rattle.fleet_state.proofs.Parts.{cell-count, cells-of}
 use Rattle.fleet_core.specs.Hooks.{AreArrivals, AreFarewells, DoRise, without_all}
@@ -132,14 +133,14 @@ module _ {A : Type 0} (m : Floor) (h : History A) (legal : IsLegal m h) (to : Li
       }
 
 -- the closures may be called in a step
-pub step-stamps : {A : Type 0} {m : Floor} {h : History A} {s : State A} {ties : List TieLaw} {goals : List (Option ℕ)} {to : List ℕ} {come : List Arrival} {gone : List Bye} {spare : List (Option StampLaw)} →
-    IsStateOf m h s → IsStep m ties s goals to come gone → AreFarewells h spare → (hooks closures : ℕ) → hooks ≡ robots h → closures ≡ robots h → MayStamp hooks closures spare to come gone
+pub step-stamps : {A : Type 0} {m : Floor} {h : History A} {s : State A} {turns : Option Turns} {ties : List TieLaw} {goals : List (Option ℕ)} {to : List ℕ} {come : List Arrival} {gone : List Bye} {spare : List (Option StampLaw)} →
+    IsStateOf m h s → IsStep m turns ties s goals to come gone → AreFarewells h spare → (hooks closures : ℕ) → hooks ≡ robots h → closures ≡ robots h → MayStamp hooks closures spare to come gone
 step-stamps {m = m} {h = h} {to = to} {come = come} {gone = gone} {spare = spare} k step left hooks closures hooked closed =
     let shows = step.arrived m h k in
     may-stamp m h k.legal to come shows [] gone (step.leaving come [] m h k shows) spare left hooks closures hooked closed (step.conflict_free.same_length ∙ cell-count k)
 
 -- a step with stamps in the closures' laws
-module _ {A : Type 0} {m : Floor} {h : History A} {s : State A} {ties : List TieLaw} {goals : List (Option ℕ)} {to : List ℕ} {come stamped : List Arrival} {gone last : List Bye} {laws : List StampLaw} {spare : List (Option StampLaw)} (k : IsStateOf m h s) (step : IsStep m ties s goals to come gone) (left : AreFarewells h spare) (are : AreStamped laws spare come stamped gone last) where
+module _ {A : Type 0} {m : Floor} {h : History A} {s : State A} {turns : Option Turns} {ties : List TieLaw} {goals : List (Option ℕ)} {to : List ℕ} {come stamped : List Arrival} {gone last : List Bye} {laws : List StampLaw} {spare : List (Option StampLaw)} (k : IsStateOf m h s) (step : IsStep m turns ties s goals to come gone) (left : AreFarewells h spare) (are : AreStamped laws spare come stamped gone last) where
   pub stamped-shows : map due_of stamped ≡ due h to
   stamped-shows = are.shows ∙ step.arrived m h k
 

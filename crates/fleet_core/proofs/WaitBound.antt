@@ -21,7 +21,14 @@ use Rattle.fleet_state.specs.State.{State}
 use Rattle.fleet_pibt.specs.Eldest.{IsEldest}
 use Rattle.fleet_pibt.specs.Order.{wait_of}
 use Rattle.fleet_planner.proofs.Lists.{item_of}
-use Rattle.fleet_planner.specs.Aimed.{Planner, IsIdle}
+use Rattle.fleet_planner.specs.Aimed.{IsIdle}
+use Rattle.fleet_history.specs.Laws.{EachTick}
+use Rattle.turns_law.specs.Turns.{Turns}
+use Rattle.turns_history.specs.Kept.{IsLegalInTurns}
+use Rattle.turns_history.proofs.Keeping.{kept-in-turns, below-in-turns}
+use Rattle.mover.specs.Moving.{Mover, IsPlannedAs}
+use Rattle.fleet_core.specs.Core.{ServesInTurns}
+use Rattle.fleet_core.proofs.Manners.{plainly, plain-of}
 use Rattle.fleet_planner.specs.Planned.{waits}
 use Rattle.fleet_core.specs.Core.{opening_of}
 use Rattle.fleet_core.specs.Hooks.{HookLaws, AreOrderly}
@@ -38,20 +45,35 @@ bound-opened {A = A} m starts n limits laws can orderly =
     bound-empty m o (legal-opening m (start o) (legal-opened m starts n limits laws can orderly))
     (λ r l. sym (unfinished-start o r) ∙ unfinished-opened A starts n limits laws r)
 
-module _ {A : Type 0} {m : Floor} {limits : Limits} {ties : List TieLaw} {number : ℕ} {h : History A} {s : State A} {p : Planner} {x : Mailboxes} (k : IsKept m limits ties number h s p x) where
+module _ {A : Type 0} {m : Floor} {limits : Limits} {ties : List TieLaw} {number : ℕ} {h : History A} {s : State A} {p : Mover} {x : Mailboxes} (k : IsKept m limits ties number h s p x) where
   -- each tick advances if all errands go to roomy cells
-  pub advances-kept : AdvancesIfRoomy m h
-  advances-kept = roomy-ticks m ties h k.is.legal k.tied.planned
+  pub advances-kept : p.turns ≡ None → AdvancesIfRoomy m h
+  advances-kept none = roomy-ticks m ties h k.is.legal (plainly m ties h p.turns none k.tied.planned)
 
   begins-kept : IsBridgeless (IsNeighbour m) ⊎ KeepsBound m (start h.opening) → KeepsBound m (start h.opening)
   begins-kept (inl none) = k.bounded none
   begins-kept (inr keeps) = keeps
 
-  pub bound-kept : HasBound m h → KeepsBound m h
-  bound-kept has = bound-legal m h k.is.legal (advances-kept has.roomy) (begins-kept has.begins)
+  pub bound-kept : p.turns ≡ None → HasBound m h → KeepsBound m h
+  bound-kept none has = bound-legal m h k.is.legal (advances-kept none has.roomy) (begins-kept has.begins)
 
-  pub waits-kept : HasBound m h → WaitsAreBounded m h
-  waits-kept has = bound-short m h k.is.legal (bound-kept has)
+  pub waits-kept : p.turns ≡ None → HasBound m h → WaitsAreBounded m h
+  waits-kept none has = bound-short m h k.is.legal (bound-kept none has)
+
+  -- the waits for served errands
+  pub serves-kept : ServesInTurns p.turns m h
+  serves-kept t l is are begins =
+      let so : IsLegalInTurns m t ties h = record {
+        legal = k.is.legal;
+        planned = subst (λ (u : Option Turns). EachTick (IsPlannedAs u m ties) h) is k.tied.planned;
+        early = omega (arith, k.within.clock, k.within.valid.clock.1);
+      } in
+      let keeps = kept-in-turns m t l ties h are so begins in
+      (keeps, below-in-turns m t l h are so.legal so.early keeps)
+
+  -- a map without bridges is planned plainly
+  pub plain-kept : IsBridgeless (IsNeighbour m) → p.turns ≡ None
+  plain-kept flat = plain-of m (robots h) p.turns k.turns flat
 
 -- a wait, if there is one
 pub if-below : (o : Option ℕ) (n : ℕ) → ((w : ℕ) → o ≡ Some w → w < n) → IfSome o (λ w. w < n)

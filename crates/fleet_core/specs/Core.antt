@@ -1,5 +1,5 @@
 -- What a world holds, and what its calls do to it.
-use Rattle.std.specs.Prelude.{ℕ, ◌+◌, false, ◌≡◌, ◌<◌, ◌≤◌, List, [], ◌∷◌, ◌++◌, Option, None, drop, length, slice_index_or, slice_set, map, replicate, slice_index}
+use Rattle.std.specs.Prelude.{ℕ, ◌+◌, ◌*◌, false, ◌≡◌, ◌<◌, ◌≤◌, List, [], ◌∷◌, ◌++◌, Option, Some, None, drop, length, slice_index_or, slice_set, map, replicate, slice_index}
 use Rattle.std.specs.List.{range_with_len}
 use Rattle.fleet_grid.specs.Floor.{Floor}
 use Rattle.fleet_hooks.specs.declared.law.StampLaw.{StampLaw}
@@ -13,12 +13,17 @@ use Rattle.fleet_history.specs.declared.history.RobotState.{RobotState}
 use Rattle.fleet_history.specs.declared.history.Opening.{Opening}
 use Rattle.fleet_history.specs.declared.history.Entry.{Entry}
 use Rattle.fleet_history.specs.declared.history.Entry.TheVariants as entry
-use Rattle.fleet_history.specs.History.{History, after, start, clock, owed, unknown_client}
+use Rattle.fleet_history.specs.History.{History, after, start, robots, clock, owed, unknown_client}
 use Rattle.fleet_history.specs.Verdicts.{IsVerdict}
 use Rattle.fleet_history.specs.Legal.{Fits}
 use Rattle.fleet_history.specs.Next.{next_opening}
 use Rattle.fleet_history.specs.Notices.{told}
-use Rattle.fleet_planner.specs.Planned.{IsPlanned, IsAdvancingTick}
+use Rattle.fleet_planner.specs.Planned.{IsAdvancingTick}
+use Rattle.turns_law.specs.Turns.{Turns}
+use Rattle.turns_history.specs.Fleets.{TurnLimits, AreTurnsFor}
+use Rattle.turns_history.specs.Kept.{AreServedBelow, KeepsTurnsAfter}
+use Rattle.mover.specs.declared.manner.Manner.TheVariants as manner
+use Rattle.mover.specs.Moving.{HasTurns, IsManner, IsPlannedAs}
 use Rattle.fleet_bound.specs.Roomy.{EldestIsRoomy}
 use Rattle.fleet_core.specs.declared.faults.TickReport.{TickReport}
 use Rattle.fleet_core.specs.Hooks.{HookLaws, law_at}
@@ -31,6 +36,8 @@ pub record World (A : Type 0) : Type 0 where
   pub limits : Limits
   -- the laws of the robots' tie closures
   pub ties : List TieLaw
+  -- the turns that the robots take; none where they are planned plainly
+  pub turns : Option Turns
   -- the chapter's number, and its history
   pub number : ℕ
   pub history : History A
@@ -87,8 +94,8 @@ pub record Ticks {A : Type 0} (before : World A) (report : TickReport) (after : 
   pub arrived : List Arrival
   pub farewells : List Bye
   pub fits : Fits {A = A} before.floor before.history (entry.Tick to arrived farewells)
-  pub planned : IsPlanned before.floor before.ties before.history to
-  pub advancing : EldestIsRoomy before.floor before.history → IsAdvancingTick before.floor before.history to
+  pub planned : IsPlannedAs before.turns before.floor before.ties before.history to
+  pub advancing : before.turns ≡ None → EldestIsRoomy before.floor before.history → IsAdvancingTick before.floor before.history to
   pub world : after ≡ grown before (entry.Tick to arrived farewells)
   pub tick : report.tick ≡ clock before.history + 1
   pub arrived_count : report.arrived ≡ length arrived
@@ -98,6 +105,18 @@ pub record Ticks {A : Type 0} (before : World A) (report : TickReport) (after : 
 pub record Shuts {A : Type 0} (before : World A) (robot : ℕ) (farewell : Option ℕ) (after : World A) : Type 0 where
   pub fits : Fits {A = A} before.floor before.history (entry.Shut robot farewell)
   pub world : after ≡ grown before (entry.Shut robot farewell)
+
+-- in turns: if the waits at its opening leave room for the bound of turns, the waits of the history do, and each robot whose front errand is
+-- served has waited for less than robots times one turn
+abbrev pub ServesInTurns : {A : Type 0} → Option Turns → Floor → History A → Type 0
+ServesInTurns turns m h = (t : Turns) (l : TurnLimits) → turns ≡ Some t → AreTurnsFor m t l (robots h) → KeepsTurnsAfter m t l (start h.opening) →
+    KeepsTurnsAfter m t l h × AreServedBelow t (robots h * l.turn) h
+
+-- the robots take turns from now on, if the map has a bridge
+pub record TakesTurns {A : Type 0} (before after : World A) : Type 0 where
+  pub has : HasTurns before.floor (robots before.history) after.turns
+  pub taken : IsManner before.floor manner.Turns after.turns
+  pub world : after ≡ record before { turns = after.turns }
 
 -- ---- the opening
 
@@ -127,6 +146,7 @@ opened_world m starts n limits laws = record {
   floor = m;
   limits = limits;
   ties = laws.ties;
+  turns = None;
   number = 0;
   history = start (opening_of starts n limits laws);
   mailboxes = replicate n (record { notices = []; limit = limits.mailbox });

@@ -1,5 +1,5 @@
 -- Which openings a world goes on from, and the world that goes on.
-use Rattle.std.specs.Prelude.{ℕ, ◌≡◌, ◌<◌, ◌≤◌, [], max, map, length}
+use Rattle.std.specs.Prelude.{ℕ, ◌≡◌, ◌<◌, ◌≤◌, [], None, max, map, length}
 use Rattle.std.specs.List.{range_with_len}
 use Rattle.fleet_grid.specs.Floor.{Floor, IsNeighbour}
 use Rattle.fleet_grid.specs.Walk.{IsBridgeless}
@@ -59,6 +59,7 @@ resumed_world m number o limits laws = record {
   floor = m;
   limits = limits;
   ties = laws.ties;
+  turns = None;
   number = number;
   history = start o;
   mailboxes = map (empty_box (start o) limits.mailbox) (range_with_len 0 (clients (start o)));

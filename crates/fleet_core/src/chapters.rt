@@ -1,13 +1,13 @@
 //! How a core goes from one chapter of its history to the next.
 
-ghost use Rattle.std.specs.Prelude.{◌≡◌, ◌+◌, ◌↔◌, OnOk, OnErr, IfOk};
+ghost use Rattle.std.specs.Prelude.{◌≡◌, ◌+◌, ◌↔◌, None, OnOk, OnErr, IfOk};
 ghost use Rattle.fleet_bound.specs.Bound.{WaitsAreBounded};
 ghost use Rattle.fleet_history.specs.History.{history_of};
 ghost use Rattle.fleet_history.specs.Laws.{EachTick};
 ghost use Rattle.fleet_history.specs.Legal.{IsLegal};
-ghost use Rattle.fleet_planner.specs.Planned.{IsPlanned};
+ghost use Rattle.mover.specs.Moving.{IsPlannedAs};
 ghost use Rattle.fleet_bound.specs.Roomy.{AdvancesIfRoomy, HasBound};
-ghost use Rattle.fleet_core.specs.Core.{next_world};
+ghost use Rattle.fleet_core.specs.Core.{ServesInTurns, next_world};
 ghost use Rattle.fleet_core.specs.Hooks.{AreArrivals, AreFarewells};
 
 use crate::faults::ChapterFault;
@@ -23,9 +23,10 @@ impl<A: Allocator + Copy> Core<A> {
         ensures history { IfOk result (λ chapter. history_of chapter ≡ self.old.history) }
         ensures number { IfOk result (λ chapter. chapter.number ≡ self.old.number) }
         ensures legal { OnOk result (IsLegal self.old.floor self.old.history) }
-        ensures planned { OnOk result (EachTick (IsPlanned self.old.floor self.old.ties) self.old.history) }
-        ensures advancing { OnOk result (AdvancesIfRoomy self.old.floor self.old.history) }
-        ensures bounded { OnOk result (HasBound self.old.floor self.old.history → WaitsAreBounded self.old.floor self.old.history) }
+        ensures planned { OnOk result (EachTick (IsPlannedAs self.old.turns self.old.floor self.old.ties) self.old.history) }
+        ensures advancing { OnOk result (self.old.turns ≡ None → AdvancesIfRoomy self.old.floor self.old.history) }
+        ensures bounded { OnOk result (self.old.turns ≡ None → HasBound self.old.floor self.old.history → WaitsAreBounded self.old.floor self.old.history) }
+        ensures served { OnOk result (ServesInTurns self.old.turns self.old.floor self.old.history) }
         ensures next { OnOk result (self.new ≡ next_world self.old) }
         ensures arrivals { (laws : _) → AreArrivals self.old.history laws → AreArrivals self.new.history laws }
         ensures farewells { (spare : _) → AreFarewells self.old.history spare → AreFarewells self.new.history spare }

@@ -10,6 +10,8 @@ ghost use Rattle.fleet_core.specs.Core.{Takes, Ticks, Shuts, HasRoom, HasNoRoom,
 ghost use Rattle.fleet_core.specs.Calls.{AnswersTick, HasLeastStamps};
 ghost use Rattle.fleet_core.specs.inside.Ready.{IsOnSame};
 ghost use Rattle.fleet_core.specs.inside.Stamped.{AreClosures};
+ghost use Rattle.fleet_state.specs.State.{robot_count};
+ghost use Rattle.mover.specs.Moving.{HasTurns};
 
 use crate::faults::{ShutFault, TakeFault, TickFault, TickReport};
 use crate::kernel::Core;
@@ -20,8 +22,8 @@ use fleet_book::{Order, Verdict};
 use fleet_grid::Grid;
 use fleet_history::{Entry, Row};
 use fleet_hooks::{ArrivalHook, Farewell, FarewellView, TieHook};
-use fleet_planner::Planner;
 use fleet_state::FleetState;
+use mover::Mover;
 use std::alloc::{Alloc, AllocError, Allocator};
 
 impl<A: Allocator + Copy> Core<A> {
@@ -191,18 +193,19 @@ impl<A: Allocator + Copy> Core<A> {
 /// robot's first.
 fn make_begun<A: Allocator + Copy>(
     entries: &mut Vec<Entry<A>, A>,
-    planner: &mut Planner<A>,
+    planner: &mut Mover<A>,
     grid: &Grid<A>,
     state: &FleetState<A>,
     order: Order,
     verdict: Verdict,
 ) -> Result<(), AllocError>
-    requires { MayBegin grid.now state.now planner.old order verdict }
+    requires may { MayBegin grid.now state.now planner.old.planner order verdict }
+    requires turns { HasTurns grid.now (robot_count state.now) planner.old.turns }
     ensures items { entries.new.items ≡ entries.old.items }
-    ensures goals { OnOk result (goals_of planner.new.aims ≡ begun_goals (begun state.now.queues order verdict) (goals_of planner.old.aims)) }
+    ensures goals { OnOk result (goals_of planner.new.planner.aims ≡ begun_goals (begun state.now.queues order verdict) (goals_of planner.old.planner.aims)) }
     ensures room { OnOk result (vec_len entries.new < vec_capacity entries.new) }
     ensures same { IsOnSame grid.now planner.old planner.new }
-    ensures refused { OnErr result (goals_of planner.new.aims ≡ goals_of planner.old.aims) }
+    ensures refused { OnErr result (goals_of planner.new.planner.aims ≡ goals_of planner.old.planner.aims) }
 {
     entries.reserve(1)?;
     planner.begin(grid, state, order, verdict)

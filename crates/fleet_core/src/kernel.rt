@@ -1,6 +1,6 @@
 //! The core of a world: its map, limits and history, and everything that follows from these. It has no closures.
 
-ghost use Rattle.std.specs.Prelude.{IsTrue, MatchOption, IsSome, IfSome, ◌≡◌, ◌+◌, ◌≤◌, ◌<◌, ◌^◌, ◌↔◌, ℕ, true, false, length, IfOk};
+ghost use Rattle.std.specs.Prelude.{IsTrue, MatchOption, IsSome, IfSome, ◌≡◌, ◌+◌, ◌≤◌, ◌<◌, ◌^◌, ◌↔◌, ℕ, true, false, None, length, IfOk};
 ghost use Rattle.fleet_bound.specs.Arriving.{IsIdleWithin};
 ghost use Rattle.fleet_bound.specs.Bound.{KeepsBound, WaitsAreBounded, wait_bound};
 ghost use Rattle.fleet_bound.specs.Idle.{idle_ticks, longest_after};
@@ -13,11 +13,12 @@ ghost use Rattle.fleet_history.specs.Legal.{IsLegal, is_done, is_none_left};
 ghost use Rattle.fleet_history.specs.Notices.{noticed_count};
 ghost use Rattle.fleet_history.specs.Waits.{wait};
 ghost use Rattle.fleet_pibt.specs.Eldest.{IsEldest};
-ghost use Rattle.fleet_planner.specs.Planned.{waits, IsPlanned};
+ghost use Rattle.fleet_planner.specs.Planned.{waits};
 ghost use Rattle.fleet_planner.specs.Aimed.{IsIdle};
 ghost use Rattle.fleet_bound.specs.Roomy.{AdvancesIfRoomy, HasBound};
+ghost use Rattle.mover.specs.Moving.{IsPlannedAs};
 ghost use Rattle.fleet_core.specs.Opening.{CanOpen};
-ghost use Rattle.fleet_core.specs.Core.{opened_world, pending, HasEntries, HasNoEntries};
+ghost use Rattle.fleet_core.specs.Core.{ServesInTurns, opened_world, pending, HasEntries, HasNoEntries};
 
 use crate::hook_laws::HookLaws;
 use crate::mailbox::Mailboxes;
@@ -27,8 +28,9 @@ use fleet_bound::{idle_within, longest_queue};
 use fleet_grid::Grid;
 use fleet_history::Chapter;
 use fleet_hooks::TieLaw;
-use fleet_planner::{Planner, eldest, is_nobody};
+use fleet_planner::{eldest, is_nobody};
 use fleet_state::FleetState;
+use mover::Mover;
 use std::alloc::{AllocError, Allocator, Global};
 use std::marker::Model;
 use std::mem;
@@ -43,7 +45,7 @@ pub struct Core<A: Allocator + Copy = Global> {
     pub(crate) ties: Vec<TieLaw, A>,
     pub(crate) chapter: Chapter<A>,
     pub(crate) state: FleetState<A>,
-    pub(crate) planner: Planner<A>,
+    pub(crate) planner: Mover<A>,
     pub(crate) mailboxes: Mailboxes<A>,
 }
 
@@ -58,6 +60,7 @@ impl<A: Allocator + Copy> Model for Core<A> {
       floor = w.grid;
       limits = w.limits;
       ties = w.ties.items;
+      turns = w.planner.turns;
       number = w.chapter.number;
       history = history_of w.chapter;
       mailboxes = w.mailboxes.boxes;
@@ -120,10 +123,11 @@ impl<A: Allocator + Copy> Core<A> {
         ensures few { length self.now.history.entries ≤ self.now.limits.chapter }
         ensures counts { (c : ℕ) → c < clients self.now.history → noticed_count self.now.history c + owed self.now.history c ≤ 2 ^ 57 }
         ensures pending { (c : ℕ) → c < clients self.now.history → length (pending self.now c).notices + owed self.now.history c ≤ 2 ^ 57 }
-        ensures planned { EachTick (IsPlanned self.now.floor self.now.ties) self.now.history }
-        ensures advancing { AdvancesIfRoomy self.now.floor self.now.history }
-        ensures bounded { HasBound self.now.floor self.now.history → WaitsAreBounded self.now.floor self.now.history }
-        ensures keeps_bound { HasBound self.now.floor self.now.history → KeepsBound self.now.floor self.now.history }
+        ensures planned { EachTick (IsPlannedAs self.now.turns self.now.floor self.now.ties) self.now.history }
+        ensures advancing { self.now.turns ≡ None → AdvancesIfRoomy self.now.floor self.now.history }
+        ensures bounded { self.now.turns ≡ None → HasBound self.now.floor self.now.history → WaitsAreBounded self.now.floor self.now.history }
+        ensures served { ServesInTurns self.now.turns self.now.floor self.now.history }
+        ensures keeps_bound { self.now.turns ≡ None → HasBound self.now.floor self.now.history → KeepsBound self.now.floor self.now.history }
     {
         &self.chapter
     }
@@ -131,7 +135,7 @@ impl<A: Allocator + Copy> Core<A> {
     pub fn wait_of(&self, robot: u32) -> Option<u64>
         requires { robot < robots self.now.history }
         ensures wait { result ≡ wait self.now.history robot }
-        ensures bounded { HasBound self.now.floor self.now.history → IfSome result (λ w. w < wait_bound self.now.floor self.now.history) }
+        ensures bounded { self.now.turns ≡ None → HasBound self.now.floor self.now.history → IfSome result (λ w. w < wait_bound self.now.floor self.now.history) }
     {
         self.state.wait_of(robot)
     }
@@ -224,9 +228,10 @@ impl<A: Allocator + Copy> Core<A> {
         ensures history { history_of result.1 ≡ self.history }
         ensures number { result.1.number ≡ self.number }
         ensures legal { IsLegal self.floor self.history }
-        ensures planned { EachTick (IsPlanned self.floor self.ties) self.history }
-        ensures advancing { AdvancesIfRoomy self.floor self.history }
-        ensures bounded { HasBound self.floor self.history → WaitsAreBounded self.floor self.history }
+        ensures planned { EachTick (IsPlannedAs self.turns self.floor self.ties) self.history }
+        ensures advancing { self.turns ≡ None → AdvancesIfRoomy self.floor self.history }
+        ensures bounded { self.turns ≡ None → HasBound self.floor self.history → WaitsAreBounded self.floor self.history }
+        ensures served { ServesInTurns self.turns self.floor self.history }
     {
         // Each by a call: a drop that goes unsaid is proved anew, list by list.
         mem::drop(self.state);

@@ -15,8 +15,8 @@ use fleet_book::Limits;
 use fleet_grid::Grid;
 use fleet_history::{ClientState, Opening, RobotState, Row};
 use fleet_hooks::StampLaw;
-use fleet_planner::Planner;
 use fleet_state::FleetState;
+use mover::{Manner, Mover};
 use std::alloc::{AllocError, Allocator};
 use std::mem;
 
@@ -114,13 +114,16 @@ fn means<A: Allocator + Copy>(
     robots: usize,
     clients: u32,
     room: u32,
-) -> Result<(Planner<A>, Mailboxes<A>), AllocError>
+) -> Result<(Mover<A>, Mailboxes<A>), AllocError>
     requires { robots ≤ 512 }
     ensures { IfOk result (λ means. AreMeans grid.now robots clients room means.0 means.1) }
 {
     let mailboxes = Mailboxes::open(alloc, clients as usize, room)?;
-    let planner = Planner::open(alloc, grid, robots)?;
-    Ok((planner, mailboxes))
+    match Mover::open(alloc, grid, robots, Manner::Plain) {
+        Ok(planner) => Ok((planner, mailboxes)),
+        // Plainly only memory can be missing.
+        Err(_fault) => Err(AllocError),
+    }
 }
 
 /// What a world begins with, besides its map, its limits and its closures' laws.
@@ -128,7 +131,7 @@ fn means<A: Allocator + Copy>(
 pub(crate) struct Beginning<A: Allocator + Copy> {
     pub(crate) opening: Opening<A>,
     pub(crate) state: FleetState<A>,
-    pub(crate) planner: Planner<A>,
+    pub(crate) planner: Mover<A>,
     pub(crate) mailboxes: Mailboxes<A>,
 }
 

@@ -10,8 +10,8 @@ use crate::mailbox::Mailboxes;
 use fleet_book::Limits;
 use fleet_grid::Grid;
 use fleet_history::{Chapter, Opening};
-use fleet_planner::Planner;
 use fleet_state::FleetState;
+use mover::{Manner, Mover};
 use std::alloc::{AllocError, Allocator};
 use std::mem;
 
@@ -19,7 +19,7 @@ use std::mem;
 #[derive(Drop)]
 pub(crate) struct Resumed<A: Allocator + Copy> {
     pub(crate) state: FleetState<A>,
-    pub(crate) planner: Planner<A>,
+    pub(crate) planner: Mover<A>,
     pub(crate) mailboxes: Mailboxes<A>,
 }
 
@@ -36,12 +36,15 @@ pub(crate) fn resumed_at<A: Allocator + Copy>(
     let state = FleetState::open(alloc, opening, limits.queue)?;
     let clients = opening.clients.as_slice();
     let mailboxes = Mailboxes::resume(alloc, clients, &state, limits.mailbox)?;
-    let planner = Planner::resume(alloc, grid, &state)?;
-    Ok(Resumed {
-        state,
-        planner,
-        mailboxes,
-    })
+    match Mover::resume(alloc, grid, &state, Manner::Plain) {
+        Ok(planner) => Ok(Resumed {
+            state,
+            planner,
+            mailboxes,
+        }),
+        // Plainly only memory can be missing.
+        Err(_fault) => Err(AllocError),
+    }
 }
 
 impl<A: Allocator + Copy> Core<A> {

@@ -1,6 +1,6 @@
 //! What a world says of its waits on maps with bridges, where its errands go to roomy cells.
 
-ghost use Rattle.std.specs.Prelude.{◌≡◌, ℕ, ◌<◌, ◌↔◌, Some, IsTrue, IsSome, IfSome};
+ghost use Rattle.std.specs.Prelude.{◌≡◌, ℕ, ◌<◌, ◌↔◌, None, Some, IsTrue, IsSome, IfSome};
 ghost use Rattle.std.specs.List.{list_all};
 ghost use Rattle.fleet_bound.specs.Idle.{idle_ticks, longest_after, wait_limit};
 ghost use Rattle.fleet_bound.specs.Roomy.{AreOpenRoomy, HasBound, IsIdleByPlan};
@@ -80,7 +80,7 @@ impl<A: Allocator + Copy> Core<A> {
     pub fn roomy_wait_limit(&self, roominess: &[u32]) -> Option<u64>
         ensures told { AreRoomyFor self.now.floor roominess.now → (IsSome result ↔ AreOpenRoomy self.now.floor self.now.history) }
         ensures exact { IfSome result (λ most. most ≡ wait_limit (robots self.now.history) (floor_count self.now.floor)) }
-        ensures above { HasBound self.now.floor self.now.history →
+        ensures above { self.now.turns ≡ None → HasBound self.now.floor self.now.history →
             IfSome result (λ most. (r w : ℕ) → r < robots self.now.history → wait self.now.history r ≡ Some w → w < most) }
     {
         if !self.are_roomy(roominess) {

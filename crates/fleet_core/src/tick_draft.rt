@@ -1,9 +1,10 @@
 //! The step of a tick: the part that allocates, before the state is changed.
 
-ghost use Rattle.std.specs.Prelude.{◌≡◌, ◌<◌, ◌^◌, true, false, length, map, vec_len, IfOk, OnOk, OnErr};
+ghost use Rattle.std.specs.Prelude.{◌≡◌, ◌+◌, ◌<◌, ◌^◌, true, false, length, map, vec_len, IfOk, OnOk, OnErr};
 ghost use Rattle.fleet_planner.specs.Courses.{goals_of};
 ghost use Rattle.fleet_state.specs.State.{robot_count};
 ghost use Rattle.fleet_planner.specs.Aimed.{MayPlan};
+ghost use Rattle.mover.specs.Moving.{HasTurns};
 ghost use Rattle.fleet_core.specs.Hooks.{spare_laws, without_all};
 ghost use Rattle.fleet_core.specs.inside.Ready.{IsStep, IsReady, IsOnSame};
 ghost use Rattle.fleet_core.specs.inside.Stamped.{MayStamp, AreStamped, AreLeast, HaveStamps, own_laws, laws_as, spare_as};
@@ -14,8 +15,8 @@ use crate::stamps::{arrive, take_leave};
 use fleet_grid::Grid;
 use fleet_history::{Arrival, Bye, Entry, RobotState};
 use fleet_hooks::{ArrivalHook, Farewell, TieHook};
-use fleet_planner::Planner;
 use fleet_state::{FleetState, Landings};
+use mover::Mover;
 use std::alloc::{AllocError, Allocator};
 
 /// Where the robots go, which arrive there and which say farewell. The stamps are written later, when nothing can fail
@@ -91,15 +92,16 @@ fn step_of<A: Allocator + Copy>(
     alloc: A,
     grid: &Grid<A>,
     state: &FleetState<A>,
-    planner: &mut Planner<A>,
+    planner: &mut Mover<A>,
     ties: &[TieHook],
 ) -> Result<TickDraft<A>, AllocError>
-    requires may { MayPlan grid.now state.now planner.old }
+    requires may { MayPlan grid.now state.now planner.old.planner }
+    requires turns { HasTurns grid.now (robot_count state.now) planner.old.turns }
     requires tied { length ties.now ≡ robot_count state.now }
-    requires early { state.now.tick < 2 ^ 63 }
-    ensures goals { goals_of planner.new.aims ≡ goals_of planner.old.aims }
+    requires early { state.now.tick + 1 < 2 ^ 63 }
+    ensures goals { goals_of planner.new.planner.aims ≡ goals_of planner.old.planner.aims }
     ensures same { IsOnSame grid.now planner.old planner.new }
-    ensures step { IfOk result (λ step. IsStep grid.now (map (λ h. h.law) ties.now) state.now (goals_of planner.old.aims) step.to.items step.arrived.items step.leaving.items) }
+    ensures step { IfOk result (λ step. IsStep grid.now planner.old.turns (map (λ h. h.law) ties.now) state.now (goals_of planner.old.planner.aims) step.to.items step.arrived.items step.leaving.items) }
 {
     let to = planner.plan(alloc, grid, state, ties)?;
     let Landings { arrived, leaving } = state.landings(alloc, to.as_slice())?;
@@ -113,17 +115,18 @@ fn step_of<A: Allocator + Copy>(
 /// Makes room for one entry more, and aims the robots at the goals that they have after a tick to these cells.
 fn make_ready<A: Allocator + Copy>(
     entries: &mut Vec<Entry<A>, A>,
-    planner: &mut Planner<A>,
+    planner: &mut Mover<A>,
     grid: &Grid<A>,
     state: &FleetState<A>,
     to: &[u32],
 ) -> Result<(), AllocError>
-    requires may { MayPlan grid.now state.now planner.old }
+    requires may { MayPlan grid.now state.now planner.old.planner }
+    requires turns { HasTurns grid.now (robot_count state.now) planner.old.turns }
     requires same { length to.now ≡ robot_count state.now }
     ensures items { entries.new.items ≡ entries.old.items }
     ensures ready { OnOk result (IsReady state.now to.now planner.new entries.new) }
     ensures same { IsOnSame grid.now planner.old planner.new }
-    ensures refused { OnErr result (goals_of planner.new.aims ≡ goals_of planner.old.aims) }
+    ensures refused { OnErr result (goals_of planner.new.planner.aims ≡ goals_of planner.old.planner.aims) }
 {
     entries.reserve(1)?;
     planner.turn(grid, state, to)
@@ -135,18 +138,19 @@ pub(crate) fn ready<A: Allocator + Copy>(
     alloc: A,
     grid: &Grid<A>,
     state: &FleetState<A>,
-    planner: &mut Planner<A>,
+    planner: &mut Mover<A>,
     ties: &[TieHook],
     entries: &mut Vec<Entry<A>, A>,
 ) -> Result<TickDraft<A>, AllocError>
-    requires may { MayPlan grid.now state.now planner.old }
+    requires may { MayPlan grid.now state.now planner.old.planner }
+    requires turns { HasTurns grid.now (robot_count state.now) planner.old.turns }
     requires tied { length ties.now ≡ robot_count state.now }
-    requires early { state.now.tick < 2 ^ 63 }
+    requires early { state.now.tick + 1 < 2 ^ 63 }
     ensures items { entries.new.items ≡ entries.old.items }
-    ensures step { IfOk result (λ step. IsStep grid.now (map (λ h. h.law) ties.now) state.now (goals_of planner.old.aims) step.to.items step.arrived.items step.leaving.items) }
+    ensures step { IfOk result (λ step. IsStep grid.now planner.old.turns (map (λ h. h.law) ties.now) state.now (goals_of planner.old.planner.aims) step.to.items step.arrived.items step.leaving.items) }
     ensures ready { IfOk result (λ step. IsReady state.now step.to.items planner.new entries.new) }
     ensures same { IsOnSame grid.now planner.old planner.new }
-    ensures refused { OnErr result (goals_of planner.new.aims ≡ goals_of planner.old.aims) }
+    ensures refused { OnErr result (goals_of planner.new.planner.aims ≡ goals_of planner.old.planner.aims) }
 {
     let step = step_of(alloc, grid, state, planner, ties)?;
     make_ready(entries, planner, grid, state, &step.to)?;

@@ -1,6 +1,6 @@
 //! How long a world's robots wait.
 
-ghost use Rattle.std.specs.Prelude.{◌≡◌, ◌<◌, ◌↔◌, IsTrue, IsSome, IfSome, MatchOption};
+ghost use Rattle.std.specs.Prelude.{◌≡◌, ◌<◌, ◌↔◌, None, IsTrue, IsSome, IfSome, MatchOption};
 ghost use Rattle.fleet_bound.specs.Arriving.{IsIdleWithin};
 ghost use Rattle.fleet_bound.specs.Bound.{wait_bound};
 ghost use Rattle.fleet_bound.specs.Idle.{idle_ticks, longest_after};
@@ -23,7 +23,7 @@ impl<A: Allocator + Copy> World<A> {
     pub fn wait_of(&self, robot: u32) -> Option<u64>
         requires { robot < robots self.now.core.history }
         ensures wait { result ≡ wait self.now.core.history robot }
-        ensures bounded { HasBound self.now.core.floor self.now.core.history → IfSome result (λ w. w < wait_bound self.now.core.floor self.now.core.history) }
+        ensures bounded { self.now.core.turns ≡ None → HasBound self.now.core.floor self.now.core.history → IfSome result (λ w. w < wait_bound self.now.core.floor self.now.core.history) }
     {
         self.core.wait_of(robot)
     }

@@ -1,6 +1,6 @@
 //! The world, as its callers see it.
 
-ghost use Rattle.std.specs.Prelude.{◌≡◌, ◌+◌, ◌≤◌, ◌<◌, ◌^◌, ◌↔◌, ℕ, true, false, OnOk, OnErr, IfOk, IsTrue, map, slice_get, length};
+ghost use Rattle.std.specs.Prelude.{◌≡◌, ◌+◌, ◌≤◌, ◌<◌, ◌^◌, ◌↔◌, ℕ, None, true, false, OnOk, OnErr, IfOk, IsTrue, map, slice_get, length};
 ghost use Rattle.fleet_bound.specs.Arriving.{ArrivesInTurn};
 ghost use Rattle.fleet_bound.specs.Bound.{KeepsBound, WaitsAreBounded};
 ghost use Rattle.fleet_history.specs.History.{history_of, owed, clients, robots, clock, place, is_shut};
@@ -9,13 +9,13 @@ ghost use Rattle.fleet_grid.specs.Walk.{IsBridgeless};
 ghost use Rattle.fleet_history.specs.Laws.{EachTick};
 ghost use Rattle.fleet_history.specs.Legal.{IsLegal};
 ghost use Rattle.fleet_history.specs.Notices.{noticed_count};
-ghost use Rattle.fleet_planner.specs.Planned.{IsPlanned};
+ghost use Rattle.mover.specs.Moving.{IsPlannedAs};
 ghost use Rattle.fleet_bound.specs.Roomy.{AdvancesIfRoomy, HasBound};
 ghost use Rattle.fleet_core.specs.Hooks.{laws_of, spare_laws, AreOrderly, AreArrivals, AreFarewells};
 ghost use Rattle.fleet_core.specs.Opening.{CanOpen};
 ghost use Rattle.fleet_core.specs.OpeningFaults.{IsRefused, IsNamed};
 ghost use Rattle.fleet_core.specs.Resuming.{CanResume, resumed_world};
-ghost use Rattle.fleet_core.specs.Core.{Takes, Ticks, Shuts, pending, without_first, widened, next_world, opened_world, HasRoom, HasNoRoom, HasEntries, HasNoEntries};
+ghost use Rattle.fleet_core.specs.Core.{ServesInTurns, Takes, Ticks, Shuts, pending, without_first, widened, next_world, opened_world, HasRoom, HasNoRoom, HasEntries, HasNoEntries};
 
 use crate::faults::{ChapterFault, OpenFault, ShutFault, TakeFault, TickFault, TickReport};
 use crate::hook_laws::HookLaws;
@@ -138,10 +138,11 @@ impl<A: Allocator + Copy> World<A> {
         ensures few { length self.now.core.history.entries ≤ self.now.core.limits.chapter }
         ensures counts { (c : ℕ) → c < clients self.now.core.history → noticed_count self.now.core.history c + owed self.now.core.history c ≤ 2 ^ 57 }
         ensures pending { (c : ℕ) → c < clients self.now.core.history → length (pending self.now.core c).notices + owed self.now.core.history c ≤ 2 ^ 57 }
-        ensures planned { EachTick (IsPlanned self.now.core.floor self.now.core.ties) self.now.core.history }
-        ensures advancing { AdvancesIfRoomy self.now.core.floor self.now.core.history }
-        ensures bounded { HasBound self.now.core.floor self.now.core.history → WaitsAreBounded self.now.core.floor self.now.core.history }
-        ensures keeps_bound { HasBound self.now.core.floor self.now.core.history → KeepsBound self.now.core.floor self.now.core.history }
+        ensures planned { EachTick (IsPlannedAs self.now.core.turns self.now.core.floor self.now.core.ties) self.now.core.history }
+        ensures advancing { self.now.core.turns ≡ None → AdvancesIfRoomy self.now.core.floor self.now.core.history }
+        ensures bounded { self.now.core.turns ≡ None → HasBound self.now.core.floor self.now.core.history → WaitsAreBounded self.now.core.floor self.now.core.history }
+        ensures served { ServesInTurns self.now.core.turns self.now.core.floor self.now.core.history }
+        ensures keeps_bound { self.now.core.turns ≡ None → HasBound self.now.core.floor self.now.core.history → KeepsBound self.now.core.floor self.now.core.history }
     {
         self.core.chapter()
     }
@@ -156,9 +157,10 @@ impl<A: Allocator + Copy> World<A> {
         ensures history { IfOk result (λ chapter. history_of chapter ≡ self.old.core.history) }
         ensures number { IfOk result (λ chapter. chapter.number ≡ self.old.core.number) }
         ensures legal { OnOk result (IsLegal self.old.core.floor self.old.core.history) }
-        ensures planned { OnOk result (EachTick (IsPlanned self.old.core.floor self.old.core.ties) self.old.core.history) }
-        ensures advancing { OnOk result (AdvancesIfRoomy self.old.core.floor self.old.core.history) }
-        ensures bounded { OnOk result (HasBound self.old.core.floor self.old.core.history → WaitsAreBounded self.old.core.floor self.old.core.history) }
+        ensures planned { OnOk result (EachTick (IsPlannedAs self.old.core.turns self.old.core.floor self.old.core.ties) self.old.core.history) }
+        ensures advancing { OnOk result (self.old.core.turns ≡ None → AdvancesIfRoomy self.old.core.floor self.old.core.history) }
+        ensures bounded { OnOk result (self.old.core.turns ≡ None → HasBound self.old.core.floor self.old.core.history → WaitsAreBounded self.old.core.floor self.old.core.history) }
+        ensures served { OnOk result (ServesInTurns self.old.core.turns self.old.core.floor self.old.core.history) }
         ensures next { OnOk result (self.new.core ≡ next_world self.old.core) }
         ensures err { OnErr result (self.new.core ≡ self.old.core) }
     {
@@ -171,9 +173,10 @@ impl<A: Allocator + Copy> World<A> {
         ensures history { history_of result.1 ≡ self.core.history }
         ensures number { result.1.number ≡ self.core.number }
         ensures legal { IsLegal self.core.floor self.core.history }
-        ensures planned { EachTick (IsPlanned self.core.floor self.core.ties) self.core.history }
-        ensures advancing { AdvancesIfRoomy self.core.floor self.core.history }
-        ensures bounded { HasBound self.core.floor self.core.history → WaitsAreBounded self.core.floor self.core.history }
+        ensures planned { EachTick (IsPlannedAs self.core.turns self.core.floor self.core.ties) self.core.history }
+        ensures advancing { self.core.turns ≡ None → AdvancesIfRoomy self.core.floor self.core.history }
+        ensures bounded { self.core.turns ≡ None → HasBound self.core.floor self.core.history → WaitsAreBounded self.core.floor self.core.history }
+        ensures served { ServesInTurns self.core.turns self.core.floor self.core.history }
     {
         let World { core, robots: _ } = self;
         core.finish()

@@ -87,6 +87,7 @@ pub record IsTalk (rows : List Row) (talk : TalkJob) : Type 0 where
   pub roll : talk.roll ≡ has_flag (codes "roll") rows
   pub chapter_bytes : first_of (codes "chapter-bytes") rows ≡ option_map (λ s. string_bytes s) talk.chapter_bytes
   pub roomy : talk.roomy ≡ has_flag (codes "roomy") rows
+  pub planner : first_of (codes "planner") rows ≡ option_map (λ s. string_bytes s) talk.planner
 
 -- the target of a name: a plan in a form, or a trace
 abbrev pub target_named : Text → Option Target
@@ -128,12 +129,15 @@ pub record IsLive (rows : List Row) (live : LiveJob) : Type 0 where
   pub resume : live.resume ≡ has_flag (codes "resume") rows
   pub resume_only : live.resume_only ≡ has_flag (codes "resume-only") rows
   pub keep_every : first_of (codes "keep-every") rows ≡ option_map (λ s. string_bytes s) live.keep_every
+  pub journal : live.journal ≡ has_flag (codes "journal") rows
+  pub recall : first_of (codes "recall") rows ≡ option_map (λ s. string_bytes s) live.recall
   pub chapter_bytes : first_of (codes "chapter-bytes") rows ≡ option_map (λ s. string_bytes s) live.chapter_bytes
   pub metrics : first_of (codes "metrics") rows ≡ option_map (λ s. string_bytes s) live.metrics
   pub pipes : or_none (all_of (codes "client") rows) ≡ map (λ s. string_bytes s) live.pipes.items
   pub watch : live.watch ≡ has_flag (codes "watch") rows
   pub service : live.service ≡ has_flag (codes "service") rows
   pub roomy : live.roomy ≡ has_flag (codes "roomy") rows
+  pub planner : first_of (codes "planner") rows ≡ option_map (λ s. string_bytes s) live.planner
 
 -- the table of a name
 abbrev pub table_named : Text → Option Figures

@@ -15,13 +15,13 @@ use Rattle.fleet_trace.specs.Reads.{Tells}
 use Rattle.fleet_trace.specs.Trace.{trace_of}
 use Rattle.fleet_talk.specs.declared.ends.Settings.{Settings}
 use Rattle.fleet_talk.specs.declared.fault.TalkFault.{TalkFault}
-use Rattle.fleet_talk.specs.declared.fault.TalkFault.TheVariants.{Output, Opening}
+use Rattle.fleet_talk.specs.declared.fault.TalkFault.TheVariants.{Output, Opening, NoRooms}
 use Rattle.fleet_talk.specs.declared.resuming.ResumeFault.{ResumeFault}
 use Rattle.fleet_talk.specs.declared.resuming.ResumeFault.TheVariants as resume_fault
 use Rattle.fleet_talk.specs.Broken.{IsMidway}
 use Rattle.fleet_talk.specs.Chapters.{Adds, ChapterView, chapter_shown}
-use Rattle.fleet_talk.specs.Conversation.{IsBegun, IsConversation, IsRefusedHead, KeptChapters, Terms}
-use Rattle.fleet_talk.specs.Resumed.{IsResumeFault, IsResumption, IsResumptionBegun}
+use Rattle.fleet_talk.specs.Conversation.{IsBegun, IsConversation, IsRefusedHead, IsRoomlessHead, KeptChapters, Terms}
+use Rattle.fleet_talk.specs.Resumed.{IsResumeFault, IsResumption, IsResumptionBegun, IsRoomless}
 use Rattle.fleet_lib.specs.declared.kept.KeptFault.{KeptFault}
 use Rattle.fleet_lib.specs.declared.kept.KeptFault.TheVariants as kept_fault
 use Rattle.fleet_lib.specs.declared.kept.KeptText.{KeptText}
@@ -35,10 +35,11 @@ use Rattle.fleet_lib.specs.Talk.{Complains, IsGround, IsGroundFault, complaint_o
 abbrev pub terms_of : Floor → Draft → Settings → Terms
 terms_of floor said settings = record { kit = kit_of 512; floor = floor; settings = settings; head = said }
 
--- a conversation whose head names the fleet: whole, refused at its opening, or its beginning; where a write failed a prefix of that
+-- a conversation whose head names the fleet: whole, refused at its opening, without rooms to take turns in, or its beginning; where a write failed a prefix of that
 abbrev pub EndsAs : Terms → List ℕ → Option (List ℕ) → Option (List ℕ) → KeptChapters → Result Bool TalkFault → Type 0
 EndsAs on bytes before after k (Ok limited) = (text : List ℕ) × (chapters : List (ChapterView Global)) × IsConversation on bytes text chapters limited × Appends before after text × Adds k.old k.new chapters
 EndsAs on bytes before after k (Err (Opening why)) = (text : List ℕ) × IsRefusedHead on bytes text why × Appends before after text
+EndsAs on bytes before after k (Err NoRooms) = (text : List ℕ) × IsRoomlessHead on bytes text × Appends before after text
 EndsAs on bytes before after k (Err Output) = (text : List ℕ) × IsBegun on bytes text × AppendsPrefix before after text
 EndsAs on bytes before after k (Err why) = (text : List ℕ) × IsBegun on bytes text × Appends before after text
 
@@ -47,10 +48,11 @@ abbrev pub BreaksOff : Terms → ChapterView Global → List ℕ → Option (Lis
 BreaksOff on c bytes before after Output = (text : List ℕ) × IsResumptionBegun on c bytes text × AppendsPrefix before after text
 BreaksOff on c bytes before after why = IsMidway why → (text : List ℕ) × IsResumptionBegun on c bytes text × Appends before after text
 
--- a conversation whose fleet was to go on from a chapter: whole, or broken off; or the chapter was refused, and nothing was written or kept
+-- a conversation whose fleet was to go on from a chapter: whole, or broken off; or the chapter was refused, or there were no rooms to take turns in, and nothing was written or kept
 abbrev pub EndsOn : Terms → ChapterView Global → List ℕ → Option (List ℕ) → Option (List ℕ) → KeptChapters → Result Bool ResumeFault → Type 0
 EndsOn on c bytes before after k (Ok limited) = (text : List ℕ) × (chapters : List (ChapterView Global)) × IsResumption on c bytes text chapters limited × Appends before after text × Adds k.old k.new chapters
 EndsOn on c bytes before after k (Err (resume_fault.Talk why)) = BreaksOff on c bytes before after why
+EndsOn on c bytes before after k (Err resume_fault.NoRooms) = IsRoomless on c × (after ≡ before) × (k.new ≡ k.old)
 EndsOn on c bytes before after k (Err why) = IsResumeFault on.settings.roomy on.kit on.floor on.head c why × (after ≡ before) × (k.new ≡ k.old)
 
 -- the end of a conversation, where it may also be that no chapter could be gone on from
@@ -97,9 +99,10 @@ abbrev pub TellsLimit : Bool → Option (List ℕ) → Option (List ℕ) → ℕ
 TellsLimit false old new status = (status ≡ 0) × (new ≡ old)
 TellsLimit true old new status = Complains complaint.Limit old new status
 
--- why a conversation broke off that was held
+-- why a conversation broke off that was held, or was to be held in turns
 abbrev pub broke : KeptFault → Option TalkFault
 broke (kept_fault.Resume (resume_fault.Talk why)) = Some why
+broke (kept_fault.Resume resume_fault.NoRooms) = Some NoRooms
 broke other = None
 
 -- of a file, why no fleet goes on from it; without one only memory can be missing

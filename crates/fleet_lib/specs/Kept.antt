@@ -48,6 +48,7 @@ resume_text (resume_fault.Chapter reopen_fault.Waits) = codes "a robot has waite
 resume_text (resume_fault.Chapter reopen_fault.NoMemory) = codes "out of memory"
 resume_text (resume_fault.Errand x) =
     codes "an errand of client " ++ (decimal x.client ++ (codes " for robot " ++ (decimal x.robot ++ (codes " goes to cell " ++ (decimal x.cell ++ codes ", which is not roomy")))))
+resume_text resume_fault.NoRooms = codes "the rooms of the map do not pass their checks"
 resume_text (resume_fault.Talk f) = codes "the conversation broke off"
 
 abbrev pub reason_text : Reason → List ℕ

@@ -5,6 +5,8 @@ pub mod Kept
 pub mod Map
 pub mod Names
 pub mod PlanTrace
+pub mod Recalled
+pub mod Recovered
 pub mod Said
 pub mod Stats
 pub mod Talk
@@ -15,3 +17,4 @@ pub mod Asked
 pub mod Judge
 pub mod Execute
 pub mod Length
+pub mod Planner

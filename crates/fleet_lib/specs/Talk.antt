@@ -34,6 +34,7 @@ complaint_of fault.Input = complaint.File
 complaint_of fault.Output = complaint.File
 complaint_of fault.Sink = complaint.File
 complaint_of (fault.Opening why) = complaint.Opening why
+complaint_of fault.NoRooms = complaint.Rooms
 complaint_of fault.NoMemory = complaint.Memory
 
 -- ---- the map and the head

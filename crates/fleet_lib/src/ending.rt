@@ -23,12 +23,13 @@ pub(crate) fn tell_limit<E: Write>(alloc: Global, limited: bool, error: &mut E) 
     }
 }
 
-/// Why a conversation broke off, if it was held.
+/// Why a conversation broke off, or its robots could not take turns, if it was not for the chapter.
 fn broke(fault: KeptFault) -> Option<TalkFault>
     ensures { result ≡ broke fault }
 {
     match fault {
         KeptFault::Resume(ResumeFault::Talk(fault)) => Some(fault),
+        KeptFault::Resume(ResumeFault::NoRooms) => Some(TalkFault::NoRooms),
         _ => None,
     }
 }

@@ -86,6 +86,7 @@ impl fmt::Display for ResumeText {
             ResumeFault::Chapter(ReopenFault::Spent) => "no chapter follows within the limits",
             ResumeFault::Chapter(ReopenFault::Waits) => "a robot has waited longer than it may",
             ResumeFault::Chapter(ReopenFault::NoMemory) => "out of memory",
+            ResumeFault::NoRooms => "the rooms of the map do not pass their checks",
             ResumeFault::Talk(_) => "the conversation broke off",
         };
         f.write_str(words)

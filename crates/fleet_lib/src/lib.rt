@@ -16,6 +16,9 @@ mod map;
 mod names;
 mod pipes;
 mod plan_trace;
+mod planner;
+mod recalling;
+mod recovering;
 mod said;
 mod stats;
 mod talk;
@@ -33,17 +36,22 @@ pub use explain::{
 };
 pub use fleet_execute::ExecuteRules;
 pub use fleet_history::Chapter;
-pub use fleet_live::{LiveEnds, Pipes};
+pub use fleet_journal::{push_entries, push_head};
+pub use fleet_live::{Given, Journal, LiveEnds, Pipes, Recalls};
 pub use fleet_plans::{MOST_PLAN_BYTES, TextForm, is_plan};
-pub use fleet_talk::{ChapterSink, Door, Ends, Settings, SinkFault, unroomy_line};
+pub use fleet_talk::{ChapterSink, Door, Ends, Manner, Settings, SinkFault, unroomy_line};
 pub use fleet_text::{InputFault, read_up_to, trace_line, write_whole};
 pub use judge::{Judgement, answer_judge};
 pub use kept::{KeptFault, KeptText};
 pub use live::run_live;
 pub use map::{MapForm, answer_map};
-pub use names::{NamesFault, last_chapter};
+pub use names::{Named, NamesFault, journal_named, last_chapter};
 pub use pipes::pipe_names;
 pub use plan_trace::{Traced, answer_trace, as_trace};
+pub use recalling::{recall_in, recall_trace};
+pub use recovering::{
+    JournalText, RecoverFault, Recovered, has_whole_line, recover_journal, recover_line,
+};
 pub use said::{Said, fail, tell};
 pub use stats::answer_stats;
 pub use talk::{TalkTexts, run_talk};

@@ -7,12 +7,14 @@ use crate::chapter_bytes::chapter_bytes_in;
 use crate::ending::tell_end;
 use crate::kept::{KeptFault, kept_chapter};
 use crate::pipes::names_twice;
+use crate::planner::manner_in;
+use crate::recalling::recall_in;
 use crate::said::fail;
 use crate::talk::{TalkTexts, complain, grounds};
 use crate::words::{Live, VERSION};
 use fleet_grid::Grid;
 use fleet_history::Chapter;
-use fleet_live::{LiveEnds, LiveSettings, keep_live, read_period, resume_live};
+use fleet_live::{Journal, LiveEnds, LiveSettings, keep_live, read_period, resume_live};
 use fleet_map::text::number_up_to;
 use fleet_script::Head;
 use fleet_talk::{ChapterSink, Ground, MOST_ROBOTS, ResumeFault};
@@ -34,9 +36,14 @@ enum BadWord {
     KeepEvery,
     /// `--keep-every` without a folder to keep chapters in.
     NoFolder,
+    /// `--journal` without one.
+    NoJournal,
     ChapterBytes,
+    Recall,
     /// `--service` without a period.
     NoPeriod,
+    /// `--planner` with a word that names no planner.
+    Planner,
     Pipes,
     /// A pipe is named twice.
     Twice,
@@ -136,12 +143,21 @@ fn settings_of(live: &Live) -> Result<LiveSettings, BadWord> {
     if keep_every.is_some() && live.traces.is_none() {
         return Err(BadWord::NoFolder);
     }
+    if live.journal && live.traces.is_none() {
+        return Err(BadWord::NoJournal);
+    }
     let Some(chapter_bytes) = chapter_bytes_in(&live.chapter_bytes) else {
         return Err(BadWord::ChapterBytes);
     };
+    if recall_in(live).is_none() {
+        return Err(BadWord::Recall);
+    }
     if live.service && period.is_none() {
         return Err(BadWord::NoPeriod);
     }
+    let Some(manner) = manner_in(&live.planner) else {
+        return Err(BadWord::Planner);
+    };
     Ok(LiveSettings {
         period,
         keep_every,
@@ -149,6 +165,7 @@ fn settings_of(live: &Live) -> Result<LiveSettings, BadWord> {
         watch: live.watch,
         service: live.service,
         roomy: live.roomy,
+        manner,
         version: VERSION,
     })
 }
@@ -164,8 +181,11 @@ fn complain_of_word<E: Write>(word: BadWord, error: &mut E) -> u8 {
         }
         BadWord::KeepEvery => "error: invalid value for '--keep-every <TIME>'\n",
         BadWord::NoFolder => "error: '--keep-every' needs '--traces <DIR>'\n",
+        BadWord::NoJournal => "error: '--journal' needs '--traces <DIR>'\n",
         BadWord::ChapterBytes => "error: invalid value for '--chapter-bytes <N>'\n",
+        BadWord::Recall => "error: invalid value for '--recall <N>'\n",
         BadWord::NoPeriod => "error: '--service' needs '--period <TIME>'\n",
+        BadWord::Planner => "error: invalid value for '--planner <NAME>'\n",
         BadWord::Pipes => "error: more '--client <IN,OUT>' than clients\n",
         BadWord::Twice => "error: a pipe is named twice for '--client <IN,OUT>'\n",
         BadWord::NoMemory => return fail(InputFault::NoMemory, error),
@@ -184,12 +204,13 @@ fn keep_with_hooks<
     Q: Write + Send + Drop + 'static,
     E: Write + Send + Drop + 'static,
     S: ChapterSink + Send + Drop + 'static,
+    J: Journal + Drop,
 >(
     rt: &R,
     (grid, head): (Grid, Head),
     kept: Option<Chapter>,
     settings: LiveSettings,
-    ends: LiveEnds<I, W, P, Q, E, S>,
+    ends: LiveEnds<I, W, P, Q, E, S, J>,
 ) -> Result<bool, ResumeFault> {
     let kit = program_kit!(rt.alloc(), MOST_ROBOTS);
     let ground = Ground { grid, kit, head };
@@ -221,8 +242,15 @@ pub fn run_live<
     Q: Write + Send + Drop + 'static,
     E: Write + Send + Drop + 'static,
     S: ChapterSink + Send + Drop + 'static,
+    J: Journal + Drop,
     F: Write,
->(rt: &R, texts: TalkTexts<'_>, live: &Live, ends: LiveEnds<I, W, P, Q, E, S>, error: &mut F) -> u8
+>(
+    rt: &R,
+    texts: TalkTexts<'_>,
+    live: &Live,
+    ends: LiveEnds<I, W, P, Q, E, S, J>,
+    error: &mut F,
+) -> u8
     requires { length texts.script.now ≤ 16777216 }
 {
     let alloc = rt.alloc();

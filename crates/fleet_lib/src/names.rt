@@ -10,7 +10,7 @@ use fleet_map::text::number_up_to;
 use std::alloc::{AllocError, Global};
 
 /// What the name of a file says.
-pub(crate) enum Named {
+pub enum Named {
     /// It does not begin and end as that of a chapter.
     Other,
     /// It is that of the chapter with this number.
@@ -66,6 +66,20 @@ fn said_by(alloc: Global, name: &str) -> Result<Named, AllocError>
         return Ok(Named::Other);
     };
     let Some(middle) = rest.strip_suffix(b".json".as_slice()) else {
+        return Ok(Named::Other);
+    };
+    match numeral(alloc, middle)? {
+        Some(number) => Ok(Named::Chapter(number)),
+        None => Ok(Named::Unreadable),
+    }
+}
+
+/// What a name says as that of a journal.
+pub fn journal_named(alloc: Global, name: &str) -> Result<Named, AllocError> {
+    let Some(rest) = name.as_bytes().strip_prefix(b"chapter-".as_slice()) else {
+        return Ok(Named::Other);
+    };
+    let Some(middle) = rest.strip_suffix(b".journal".as_slice()) else {
         return Ok(Named::Other);
     };
     match numeral(alloc, middle)? {

@@ -48,6 +48,7 @@ pub(crate) fn complaint_of(fault: TalkFault) -> Complaint
     match fault {
         TalkFault::Input | TalkFault::Output | TalkFault::Sink => Complaint::File,
         TalkFault::Opening(fault) => Complaint::Opening(fault),
+        TalkFault::NoRooms => Complaint::Rooms,
         TalkFault::NoMemory => Complaint::Memory,
     }
 }

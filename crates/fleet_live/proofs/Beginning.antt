@@ -1,9 +1,10 @@
 -- What holds of a fleet that begins, and after it heard its events.
-use Rattle.std.proofs.Common.{◌≡◌, ◌∙◌, ◌≤◌, ◌+◌, ℕ, zero, suc, Bool, false, List, [], ◌∷◌, ◌++◌, Result, Ok, Err, length, drop, replicate, refl, sym, ap, subst, arith}
-use Rattle.std.specs.Prelude.{◌||◌, OnOk, slice_index_or}
+use Rattle.std.proofs.Common.{◌≡◌, ◌∙◌, ◌≤◌, ◌+◌, ℕ, zero, suc, Bool, false, List, [], ◌∷◌, ◌++◌, Result, Ok, Err, ◌⊎◌, inl, inr, length, drop, replicate, refl, sym, ap, subst, arith}
+use Rattle.std.specs.Prelude.{◌||◌, IfSome, OnOk, slice_index_or}
 use Rattle.std.specs.declared.alloc.Global.{Global}
 use Rattle.fleet_talk.specs.Chapters.{ChapterView}
 use Rattle.fleet_world.specs.Talk.{Talk}
+use Rattle.live_parts.specs.Recalls.{Recalls}
 use Rattle.live_fleet.specs.declared.notes.Note.{Note}
 use Rattle.live_fleet.specs.declared.speaker.Speaker.{Speaker}
 use Rattle.live_fleet.specs.Act.{met_by}
@@ -12,8 +13,10 @@ use Rattle.live_fleet.specs.Party.{DoorView, Heard, Stage}
 use Rattle.live_fleet.specs.Went.{At}
 use Rattle.fleet_live.specs.declared.text_out.TextOut.{TextOut}
 use Rattle.fleet_live.specs.Begin.{AreNew, IsNew, Serves, first_stage}
+use Rattle.fleet_live.specs.Logged.{Begins, Follows, IsBacked, IsReadyAt, IsToldLogged, LogView, Logs, told_so_far}
 use Rattle.fleet_live.specs.Loop.{Keeps, told_in_all}
 use Rattle.fleet_live.specs.Told.{ahead_at, handed_at}
+use Rattle.fleet_live.proofs.Backed.{first-ready}
 
 -- ---- nothing was handed on
 
@@ -51,16 +54,17 @@ none_told xs text k new none = ap (λ (l : List ℕ). told_in_all l (ahead_at xs
 
 -- ---- the first stage
 
-abbrev pub at : Talk Global → Bool → List (List ℕ) → List (ChapterView Global) → At
-at s met texts chapters = record { fleet = record { talk = s; met = met }; out = record { texts = texts; chapters = chapters } }
+abbrev pub at : Talk Global → Recalls → Bool → List (List ℕ) → List (ChapterView Global) → At
+at s recalls met texts chapters = record { fleet = record { talk = s; met = met; recalls = recalls }; out = record { texts = texts; chapters = chapters } }
 
 abbrev pub stage : At → ℕ → DoorView → List Speaker → List Note → Bool → Bool → Stage
 stage a clients door who notes is_over has_ended = record { at = a; clients = clients; door = door; speakers = who; notes = notes; is_over = is_over; has_ended = has_ended }
 
 -- of equal parts
-pub same-at : (s t : Talk Global) (met is_met : Bool) (texts said : List (List ℕ)) (chapters handed : List (ChapterView Global)) → s ≡ t → met ≡ is_met → texts ≡ said → chapters ≡ handed → at s met texts chapters ≡ at t is_met said handed
-same-at s t met is_met texts said chapters handed talk limited told given =
-    ap (λ (x : Talk Global). at x met texts chapters) talk ∙ (ap (λ (x : Bool). at t x texts chapters) limited ∙ (ap (λ (x : List (List ℕ)). at t is_met x chapters) told ∙ ap (λ (x : List (ChapterView Global)). at t is_met said x) given))
+pub same-at : (s t : Talk Global) (recalls : Recalls) (met is_met : Bool) (texts said : List (List ℕ)) (chapters handed : List (ChapterView Global)) → s ≡ t → met ≡ is_met → texts ≡ said → chapters ≡ handed
+    → at s recalls met texts chapters ≡ at t recalls is_met said handed
+same-at s t recalls met is_met texts said chapters handed talk limited told given =
+    ap (λ (x : Talk Global). at x recalls met texts chapters) talk ∙ (ap (λ (x : Bool). at t recalls x texts chapters) limited ∙ (ap (λ (x : List (List ℕ)). at t recalls is_met x chapters) told ∙ ap (λ (x : List (ChapterView Global)). at t recalls is_met said x) given))
 
 pub same-stage : (a b : At) (m n : ℕ) (door entrance : DoorView) (who speakers : List Speaker) (notes news : List Note) (over is_over ended has_ended : Bool) → a ≡ b → m ≡ n → door ≡ entrance → who ≡ speakers → notes ≡ news → over ≡ is_over → ended ≡ has_ended
     → stage a m door who notes over ended ≡ stage b n entrance speakers news is_over has_ended
@@ -85,13 +89,48 @@ served s t heard old new e f unmet blank is_new none keeps = record {
   hands = keeps.hands ∙ ap (λ (l : List (ChapterView Global)). l ++ chapters_of keeps.acts) none;
 }
 
-pub if-served : {T E : Type 0} (r : Result T E) (talk : Talk Global) (door : DoorView) (who : List Speaker) (s t : Stage) (none taken : List Heard) (old new : List TextOut) (e f : List (ChapterView Global))
-    → s ≡ first_stage talk door who → AreNew old → none ≡ [] → e ≡ []
-    → OnOk r ((heard : List Heard) × (taken ≡ none ++ heard) × Keeps s t heard (handed_at old) (handed_at new) (ahead_at old) (ahead_at new) e f) → OnOk r (Serves (first_stage talk door who) t taken new f)
-if-served (Ok v) talk door who s t none taken old new e f same is_new no_event no_chapter (heard, took, keeps) =
-    let first = first_stage talk door who in
+-- what the loop keeps, and what it keeps of the journal
+abbrev pub Kept : (s t : Stage) (none taken : List Heard) (old new : List TextOut) (e f : List (ChapterView Global)) (u v : LogView) → Type 0
+Kept s t none taken old new e f u v = (heard : List Heard) × (taken ≡ none ++ heard) × Keeps s t heard (handed_at old) (handed_at new) (ahead_at old) (ahead_at new) e f
+    × ((before : List (ChapterView Global)) → IsReadyAt u before s → Logs s t heard (handed_at old) (handed_at new) (ahead_at old) e f before u v)
+
+pub if-served : {T E : Type 0} (r : Result T E) (talk : Talk Global) (recalls : Recalls) (door : DoorView) (who : List Speaker) (s t : Stage) (none taken : List Heard) (old new : List TextOut) (e f : List (ChapterView Global)) (u v : LogView)
+    → s ≡ first_stage talk recalls door who → AreNew old → none ≡ [] → e ≡ []
+    → OnOk r (Kept s t none taken old new e f u v) → OnOk r (Serves (first_stage talk recalls door who) t taken new f)
+if-served (Ok x) talk recalls door who s t none taken old new e f u v same is_new no_event no_chapter (heard, took, keeps, logs) =
+    let first = first_stage talk recalls door who in
     let is : taken ≡ heard = took ∙ ap (λ (l : List Heard). l ++ heard) no_event in
     subst (λ (l : List Heard). Serves first t l new f) (sym is)
     (served first t heard old new e f refl (λ k. blank-at (length who) k) is_new (ap (λ (l : List (ChapterView Global)). l ++ []) no_chapter)
     (subst (λ (x : Stage). Keeps x t heard (handed_at old) (handed_at new) (ahead_at old) (ahead_at new) e f) same keeps))
-if-served (Err e) talk door who s t none taken old new d f same is_new no_event no_chapter heard = tt
+if-served (Err x) talk recalls door who s t none taken old new d f u v same is_new no_event no_chapter kept = tt
+
+-- what was told follows from what the journal has
+follows_first : (s : Stage) (heard : List Heard) (old new : List TextOut) (before : List (ChapterView Global)) (v : LogView) → ((k : ℕ) → text_at s.at.out k ≡ []) → AreNew old → Follows s heard (told_so_far (handed_at old) (ahead_at old) s) (handed_at new) before v
+    → Follows s heard (λ k. []) (handed_at new) before v
+follows_first s heard old new before v blank is_new f = record {
+  heard = f.heard;
+  later = f.later;
+  parts = f.parts;
+  acts = f.acts;
+  mid = f.mid;
+  plays = f.plays;
+  runs = f.runs;
+  tells = λ k. subst (λ (l : List ℕ). Begins (handed_at new k) (l ++ told_to k f.acts)) (none_told old (text_at s.at.out k) k is_new (blank k)) (f.tells k);
+  has = f.has;
+}
+
+told_logged : (s : Stage) (heard : List Heard) (old new : List TextOut) (before : List (ChapterView Global)) (u v : LogView) → ((k : ℕ) → text_at s.at.out k ≡ []) → AreNew old
+    → IsBacked s heard (told_so_far (handed_at old) (ahead_at old) s) (handed_at old) (handed_at new) before u v → IsToldLogged s heard (handed_at new) before v
+told_logged s heard old new before u v blank is_new (inl (same, log)) = inl (λ k. same k ∙ new_handed old k is_new)
+told_logged s heard old new before u v blank is_new (inr f) = inr (follows_first s heard old new before v blank is_new f)
+
+pub if-logged : {T E : Type 0} (r : Result T E) (talk : Talk Global) (recalls : Recalls) (door : DoorView) (who : List Speaker) (s t : Stage) (none taken : List Heard) (old new : List TextOut) (e f : List (ChapterView Global)) (u v first : LogView)
+    → s ≡ first_stage talk recalls door who → AreNew old → none ≡ [] → u ≡ first → first.entries ≡ 0
+    → OnOk r (Kept s t none taken old new e f u v) → OnOk r ((before : List (ChapterView Global)) → IfSome first.logged (λ logged. logged ≡ before) → IsToldLogged (first_stage talk recalls door who) taken (handed_at new) before v)
+if-logged (Ok x) talk recalls door who s t none taken old new e f u v first same is_new no_event began no_entry (heard, took, keeps, logs) = λ before start.
+    let is : taken ≡ heard = took ∙ ap (λ (l : List Heard). l ++ heard) no_event in
+    let ready : IsReadyAt u before s = subst (λ (l : LogView). IsReadyAt l before s) (sym began) (first-ready first before s no_entry (ap (λ (x : Stage). x.at.out.chapters) same) start) in
+    let logged : IsToldLogged s heard (handed_at new) before v = told_logged s heard old new before u v (λ k. ap (λ (x : Stage). text_at x.at.out k) same ∙ blank-at (length who) k) is_new (logs before ready).backed in
+    subst (λ (l : List Heard). IsToldLogged (first_stage talk recalls door who) l (handed_at new) before v) (sym is) (subst (λ (x : Stage). IsToldLogged x heard (handed_at new) before v) same logged)
+if-logged (Err x) talk recalls door who s t none taken old new d f u v first same is_new no_event began no_entry kept = tt

@@ -106,13 +106,3 @@ pub keeps-hand : {T E : Type 0} (r : Result T E) (s t : Stage) (n : Next) (bytes
 keeps-hand (Ok v) s t n bytes told new_told ahead new_ahead kept new_kept is same hands =
     subst (λ (x : Next). Keeps s t (next_heard x bytes) told new_told ahead new_ahead kept new_kept) (sym is) (keeps-handed s t told new_told ahead new_ahead kept new_kept hands same)
 keeps-hand (Err e) s t n bytes told new_told ahead new_ahead kept new_kept is same hands = tt
-
--- one more step after those before
-pub keeps-more : (s m t : Stage) (heard : List Heard) (x y z : List Heard) (n o : Next) (bytes line : List ℕ) (a b c : ℕ → List ℕ) (i j k : ℕ → ℕ) (e f h : List (ChapterView Global)) → y ≡ x ++ heard → z ≡ y ++ next_heard n bytes → o ≡ n → line ≡ bytes
-    → Keeps s m heard a b i j e f → Keeps m t (next_heard o line) b c j k f h → (all : List Heard) × (z ≡ x ++ all) × Keeps s t all a c i k e h
-keeps-more s m t heard x y z n o bytes line a b c i j k e f h before took same is one two =
-    let event : next_heard o line ≡ next_heard n bytes = ap (λ (v : Next). next_heard v line) same ∙ ap (λ (l : List ℕ). next_heard n l) is in (
-      heard ++ next_heard n bytes,
-      took ∙ (ap (λ (l : List Heard). l ++ next_heard n bytes) before ∙ append_assoc x heard (next_heard n bytes)),
-      keeps-then s m t heard (next_heard n bytes) a b c i j k e f h one (subst (λ (l : List Heard). Keeps m t l b c j k f h) event two),
-    )

@@ -3,6 +3,9 @@ pub mod ByPlace
 pub mod Counting
 pub mod Cut
 pub mod Kept
+pub mod Logged
+pub mod Growing
+pub mod Backed
 pub mod Pulled
 pub mod Quits
 pub mod Refusing

@@ -32,7 +32,7 @@ run_sound : (s : Talk Global) (acts : List Act) (t : Talk Global) → Runs s act
 run_sound s [] t runs = tt
 run_sound s (did e reply ∷ acts) t (m, act, runs) = run_sound m acts t runs
 run_sound s (full e ∷ acts) t (m, act, runs) = run_sound m acts t runs
-run_sound s (handed c ∷ acts) t (m, (same, sound, next), runs) = (subst IsKeepable (sym same) (s.world.floor, sound), run_sound m acts t runs)
+run_sound s (handed c ∷ acts) t (m, (same, sound, next), runs) = (subst IsKeepable (sym same) (s.world.turns, s.world.floor, sound), run_sound m acts t runs)
 run_sound s (told to client notice ∷ acts) t (m, act, runs) = run_sound m acts t runs
 run_sound s (said to text ∷ acts) t (m, act, runs) = run_sound m acts t runs
 run_sound s (grew client extra ∷ acts) t (m, act, runs) = run_sound m acts t runs

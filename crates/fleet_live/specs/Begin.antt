@@ -7,6 +7,7 @@ use Rattle.fleet_talk.specs.Chapters.{ChapterView}
 use Rattle.fleet_world.specs.Talk.{Talk}
 use Rattle.live_parts.specs.declared.demand.Rights.{Rights}
 use Rattle.live_parts.specs.declared.ends.LiveSettings.{LiveSettings}
+use Rattle.live_parts.specs.Recalls.{Recalls}
 use Rattle.live_fleet.specs.declared.rest.Rest.TheVariants.{Nothing}
 use Rattle.live_fleet.specs.declared.speaker.Clients.{Clients}
 use Rattle.live_fleet.specs.declared.speaker.Speaker.{Speaker}
@@ -42,10 +43,10 @@ speakers_for pipes clients paced watch = operator pipes clients paced watch ∷ 
 abbrev pub speakers_at : LiveSettings → (pipes : ℕ) → History Global → List Speaker
 speakers_at settings pipes h = speakers_for pipes (clients h) (is_some settings.period) settings.watch
 
--- nothing was heard, said or done
-abbrev pub first_stage : Talk Global → DoorView → List Speaker → Stage
-first_stage s door who = record {
-  at = record { fleet = record { talk = s; met = false }; out = record { texts = replicate (length who) []; chapters = [] } };
+-- nothing was heard, said or done; of what clients were told before, this is kept
+abbrev pub first_stage : Talk Global → Recalls → DoorView → List Speaker → Stage
+first_stage s recalls door who = record {
+  at = record { fleet = record { talk = s; met = false; recalls = recalls }; out = record { texts = replicate (length who) []; chapters = [] } };
   clients = clients s.world.history;
   door = door;
   speakers = who;

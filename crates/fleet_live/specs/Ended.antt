@@ -5,6 +5,8 @@ use Rattle.fleet_core.specs.OpeningFaults.{IsRefused}
 use Rattle.fleet_core.specs.declared.faults.OpenFault.{OpenFault}
 use Rattle.fleet_core.specs.declared.faults.OpenFault.TheVariants as fault
 use Rattle.fleet_script.specs.Script.{Draft}
+use Rattle.fleet_turns.specs.declared.planner.NoTurns.{NoTurns}
+use Rattle.fleet_turns.specs.declared.planner.NoTurns.TheVariants as turns
 use Rattle.fleet_text.specs.Kit.{KitLaws}
 use Rattle.fleet_talk.specs.Conversation.{clients_in, laws_in, limits_in}
 use Rattle.live_parts.specs.declared.stop.Stop.{Stop}
@@ -20,6 +22,11 @@ IsRefusedHead kit m d starts why = IsRefused m starts (clients_in d) (limits_in 
 abbrev pub unopened : OpenFault → TalkFault
 unopened fault.NoMemory = talk.NoMemory
 unopened why = talk.Opening why
+
+-- why its robots take no turns
+abbrev pub turnless : NoTurns → TalkFault
+turnless turns.NoMemory = talk.NoMemory
+turnless turns.NoRooms = talk.NoRooms
 
 -- a fault of a fleet that was opened
 abbrev pub IsEnded : TalkFault → Type 0

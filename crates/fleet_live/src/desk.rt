@@ -5,7 +5,9 @@ ghost use Rattle.rtrb.specs.Ring.{sent};
 ghost use Rattle.fleet_history.specs.History.{clients};
 ghost use Rattle.fleet_world.specs.Keeps.{talk};
 ghost use Rattle.live_fleet.specs.Party.{door_shown, stage_of};
+ghost use Rattle.live_fleet.specs.Recalling.{AreBegun};
 ghost use Rattle.fleet_live.specs.Begin.{AreNew, first_stage, speakers_at};
+ghost use Rattle.fleet_live.specs.Logged.{log_view};
 
 use crate::archiving::start_keeper;
 use crate::batch::Batch;
@@ -13,6 +15,7 @@ use crate::conversations::{conversations_of, reports_of, speakers_of};
 use crate::counts::Counts;
 use crate::events::LiveEvents;
 use crate::listeners::LiveListeners;
+use crate::logging::Log;
 use crate::pace::Pace;
 use crate::report_out::ReportOut;
 use crate::reports::Reports;
@@ -24,7 +27,7 @@ use fleet_core::World;
 use fleet_talk::{ChapterSink, Door, counted};
 use fleet_world::Session;
 use live_fleet::{Outboxes, Party};
-use live_parts::{Archive, ChapterSize, LiveEnds, LiveSettings};
+use live_parts::{Archive, ChapterSize, Journal, LiveEnds, LiveSettings, Recalls};
 use rtrb::RingBuffer;
 use std::alloc::{Alloc, AllocError, Global};
 use std::io::{Read, Write};
@@ -48,11 +51,11 @@ pub(crate) struct Site {
 
 /// What a fleet is kept with, after its threads were started.
 #[derive(Drop)]
-pub(crate) struct Desk<S> {
+pub(crate) struct Desk<S, J> {
     pub(crate) party: Party,
     pub(crate) out: Outboxes,
     pub(crate) events: LiveEvents,
-    pub(crate) listeners: LiveListeners<S>,
+    pub(crate) listeners: LiveListeners<S, J>,
     /// The thread that writes the first conversation's output.
     pub(crate) writer: Option<JoinHandle<()>>,
 }
@@ -144,19 +147,21 @@ fn client_count(session: &Session) -> u32
 pub(crate) fn party_of(
     alloc: Global,
     session: Session,
-    door: Door,
+    before: (Door, Recalls),
     pipes: usize,
     settings: LiveSettings,
 ) -> Result<(Party, Outboxes), AllocError>
     // Of each call: only a call with a condition may hand on closures.
     requires { 0 ≤ session.world.core.number }
-    ensures { IfOk result (λ r. stage_of r.0 r.1 ≡ first_stage (talk session) (door_shown door) (speakers_at settings pipes session.world.core.history)) }
+    ensures stage { IfOk result (λ r. stage_of r.0 r.1 ≡ first_stage (talk session) r.0.fleet.recalls (door_shown before.0) (speakers_at settings pipes session.world.core.history)) }
+    ensures begun { IfOk result (λ r. AreBegun session.world.core.history before.1 r.0.fleet.recalls) }
 {
+    let (door, recalls) = before;
     let clients = client_count(&session);
     let paced = settings.period.is_some();
     let speakers = speakers_of(alloc, pipes, clients, paced, settings.watch)?;
     let out = Outboxes::new(alloc, speakers.len())?;
-    let party = Party::new(alloc, session, speakers, door)?;
+    let party = Party::new(alloc, session, speakers, door, recalls)?;
     Ok((party, out))
 }
 
@@ -164,17 +169,20 @@ pub(crate) fn party_of(
 fn listeners_of<
     R: Alloc<A = Global> + Clock + Threads + Wait + Copy + Send + Drop + 'static,
     S: ChapterSink + Send + Drop + 'static,
+    J: Journal + Drop,
 >(
     rt: &R,
-    sink: S,
+    kept: (S, Log<J>),
     texts: Vec<TextOut>,
     wake: Arc<Wake>,
     shelf: Arc<Shelf>,
     paced: bool,
-) -> Result<LiveListeners<S>, AllocError>
+) -> Result<LiveListeners<S, J>, AllocError>
     ensures texts { IfOk result (λ l. l.texts ≡ texts) }
     ensures chapters { IfOk result (λ l. sent l.chapters ≡ []) }
+    ensures log { IfOk result (λ l. l.log ≡ kept.1) }
 {
+    let (sink, log) = kept;
     let (chapters, end) = RingBuffer::with_protocol::<Global, SoundChapters>(
         rt.alloc(),
         MOST_CHAPTERS,
@@ -184,6 +192,7 @@ fn listeners_of<
         texts,
         chapters,
         shelf,
+        log,
         wake,
         keeper: Some(keeper),
         last: None,
@@ -201,21 +210,24 @@ fn start_all<
     Q: Write + Send + Drop + 'static,
     E: Write + Send + Drop + 'static,
     S: ChapterSink + Send + Drop + 'static,
+    J: Journal + Drop,
 >(
     rt: &R,
     world: &World,
     site: Site,
-    ends: LiveEnds<I, W, P, Q, E, S>,
-) -> Result<(LiveEvents, LiveListeners<S>, Option<JoinHandle<()>>), AllocError>
+    ends: LiveEnds<I, W, P, Q, E, S, J>,
+) -> Result<(LiveEvents, LiveListeners<S, J>, Option<JoinHandle<()>>), AllocError>
     ensures texts { IfOk result (λ r. AreNew r.1.texts.items) }
     ensures chapters { IfOk result (λ r. sent r.1.chapters ≡ []) }
+    ensures log { IfOk result (λ r. log_view J.logged r.1.log.journal r.1.log.number r.1.log.entries ≡ log_view J.logged ends.journal world.now.core.number 0) }
     ensures taken { IfOk result (λ r. r.0.taken.items ≡ []) }
 {
     let (mut source, wake, shelf) = new_source(rt, world, site, ends.counts, ends.figures)?;
     let all = conversations_of(rt, &wake, ends.input, ends.output, ends.pipes)?;
     source.places = all.places;
     let paced = site.settings.period.is_some();
-    let listeners = listeners_of(rt, ends.sink, all.texts, wake, shelf, paced)?;
+    let log = Log::new(ends.journal, world.chapter().number);
+    let listeners = listeners_of(rt, (ends.sink, log), all.texts, wake, shelf, paced)?;
     let events = LiveEvents::new(rt.alloc(), source);
     Ok((events, listeners, all.first))
 }
@@ -229,18 +241,20 @@ pub(crate) fn begin<
     Q: Write + Send + Drop + 'static,
     E: Write + Send + Drop + 'static,
     S: ChapterSink + Send + Drop + 'static,
+    J: Journal + Drop,
 >(
     rt: &R,
     party: Party,
     out: Outboxes,
     site: Site,
-    ends: LiveEnds<I, W, P, Q, E, S>,
-) -> Result<Desk<S>, AllocError>
+    ends: LiveEnds<I, W, P, Q, E, S, J>,
+) -> Result<Desk<S, J>, AllocError>
     requires { 0 ≤ party.fleet.session.world.core.number }
     ensures stage { IfOk result (λ d. stage_of d.party d.out ≡ stage_of party out) }
     ensures texts { IfOk result (λ d. AreNew d.listeners.texts.items) }
     ensures chapters { IfOk result (λ d. sent d.listeners.chapters ≡ []) }
     ensures taken { IfOk result (λ d. d.events.taken.items ≡ []) }
+    ensures log { IfOk result (λ d. log_view J.logged d.listeners.log.journal d.listeners.log.number d.listeners.log.entries ≡ log_view J.logged ends.journal party.fleet.session.world.core.number 0) }
 {
     let (events, listeners, writer) = start_all(rt, &party.fleet.session.world, site, ends)?;
     Ok(Desk {

@@ -1,11 +1,12 @@
 //! Where events come from, and where what is said goes.
 
-ghost use Rattle.std.specs.Prelude.{◌≡◌, ◌≤◌, ◌++◌, ℕ, List, IfOk, OnOk, length};
+ghost use Rattle.std.specs.Prelude.{◌≡◌, ◌≤◌, ◌++◌, [], ℕ, List, IfOk, OnOk, length};
 ghost use Rattle.std.specs.declared.alloc.Global.{Global};
-ghost use Rattle.fleet_talk.specs.Chapters.{ChapterView};
+ghost use Rattle.fleet_talk.specs.Chapters.{ChapterView, chapter_in};
 ghost use Rattle.live_fleet.specs.Out.{out_of, text_at};
 ghost use Rattle.live_fleet.specs.Party.{Heard, heard_of, stage_of};
 ghost use Rattle.live_parts.specs.Kept.{AreSound};
+ghost use Rattle.fleet_live.specs.Logged.{HandsLogged, IsReadyAt, LogView};
 ghost use Rattle.fleet_live.specs.Loop.{HandsOn, MayHear, heard_by, next_heard};
 
 use live_fleet::{Cue, Outboxes, Party};
@@ -89,8 +90,11 @@ pub trait Listeners {
     ghost ahead: { Self → ℕ → ℕ };
     /// The chapters that were handed on.
     ghost kept: { Self → List (ChapterView Global) };
+    /// What the journal has, if one is written.
+    ghost log: { Self → LogView };
 
-    /// Hands on what was said, as much as its readers have room for, and all chapters.
+    /// Hands on what was said, as much as its readers have room for, and all chapters. Before that the journal gets all
+    /// entries that it has not yet; if that fails, nothing is handed on.
     fn hand<R: Alloc<A = Global> + Clock + Threads + Wait>(
         &mut self,
         rt: &R,
@@ -100,5 +104,9 @@ pub trait Listeners {
         requires number { 0 ≤ party.now.fleet.session.world.core.number }
         requires within { (k : ℕ) → ahead self.old k ≤ length (text_at (out_of out.old) k) }
         requires sound { AreSound (out_of out.old).chapters }
-        ensures hands { OnOk result (HandsOn (told self.old) (told self.new) (ahead self.old) (ahead self.new) (kept self.old) (kept self.new) (out_of out.old) (out_of out.new)) };
+        requires ready { (before : List (ChapterView Global)) × IsReadyAt (log self.old) before (stage_of party.now out.old) }
+        ensures hands { OnOk result (HandsOn (told self.old) (told self.new) (ahead self.old) (ahead self.new) (kept self.old) (kept self.new) (out_of out.old) (out_of out.new)) }
+        ensures none { OnOk result ((out_of out.new).chapters ≡ []) }
+        ensures logged { (before : List (ChapterView Global)) → IsReadyAt (log self.old) before (stage_of party.now out.old)
+            → HandsLogged result (told self.old) (told self.new) (kept self.old) (kept self.new) (out_of out.old).chapters before (log self.new) (chapter_in party.now.fleet.session.world.core) };
 }

@@ -17,6 +17,8 @@ mod lines_in;
 mod link;
 mod listeners;
 mod live;
+mod logging;
+mod manner;
 mod opening;
 mod pace;
 mod place;
@@ -34,5 +36,5 @@ mod wake;
 mod writing;
 
 pub use live::keep_live;
-pub use live_parts::{LiveEnds, LiveSettings, Pipes, read_period};
+pub use live_parts::{Given, Journal, LiveEnds, LiveSettings, Pipes, Recalls, read_period};
 pub use resuming::resume_live;

@@ -1,20 +1,27 @@
 //! The rings of the writers, and the chapters.
 
-ghost use Rattle.std.specs.Prelude.{◌≡◌, ◌++◌, ◌∷◌, [], map};
+ghost use Rattle.std.specs.Prelude.{◌≡◌, ◌≤◌, ◌++◌, ◌∷◌, [], ℕ, List, Some, None, OnOk, false, length, map, option_map, true, unwrap_or};
+ghost use Rattle.std.specs.declared.alloc.Global.{Global};
 ghost use Rattle.rtrb.specs.Ring.{sent};
-ghost use Rattle.fleet_talk.specs.Chapters.{chapter_shown};
+ghost use Rattle.fleet_talk.specs.Chapters.{ChapterView, chapter_in, chapter_shown};
+ghost use Rattle.live_fleet.specs.Out.{out_of, text_at};
 ghost use Rattle.live_parts.specs.Kept.{AreSound, IsKeepable};
+ghost use Rattle.live_parts.specs.declared.stop.Stop.TheVariants.{NoMemory};
+ghost use Rattle.fleet_live.specs.Logged.{HasAll, IsReady, log_view, stop_for};
+ghost use Rattle.fleet_live.specs.Loop.{HandsOn};
+ghost use Rattle.fleet_live.specs.Told.{ahead_at, handed_at};
 
 use crate::archiving::Kept;
 use crate::ends::Listeners;
 use crate::handing::hand_texts;
+use crate::logging::Log;
 use crate::shelf::{Shelf, SoundChapters};
 use crate::text_out::TextOut;
 use crate::wake::Wake;
 use fleet_history::Chapter;
 use fleet_talk::ChapterSink;
 use live_fleet::{Outboxes, Party};
-use live_parts::Stop;
+use live_parts::{Journal, Stop};
 use rtrb::{Producer, PushError};
 use std::alloc::{Alloc, AllocError, Global};
 use std::sync::{Arc, Wait};
@@ -23,10 +30,12 @@ use std::time::Clock;
 
 /// Where what is said goes: by conversation the ring of its writer, and the ring of the thread that keeps chapters.
 #[derive(Drop)]
-pub(crate) struct LiveListeners<S> {
+pub(crate) struct LiveListeners<S, J> {
     pub(crate) texts: Vec<TextOut>,
     pub(crate) chapters: Producer<Chapter, Global, SoundChapters>,
     pub(crate) shelf: Arc<Shelf>,
+    /// What has the entries before anything is told that follows from them.
+    pub(crate) log: Log<J>,
     /// Wakes the loop.
     pub(crate) wake: Arc<Wake>,
     /// The thread that keeps chapters, until the fleet has ended.
@@ -89,7 +98,7 @@ fn give_all<R: Wait>(
     }
 }
 
-impl<S: ChapterSink + Drop> LiveListeners<S> {
+impl<S: ChapterSink + Drop, J: Journal + Drop> LiveListeners<S, J> {
     /// Gives the chapters that were handed out to the keeper. If turns are made on demand, waits until it has tried to
     /// keep them.
     fn hand_chapters<R: Wait>(&mut self, rt: &R, chapters: &mut Vec<Chapter>)
@@ -97,6 +106,7 @@ impl<S: ChapterSink + Drop> LiveListeners<S> {
         ensures texts { self.new.texts ≡ self.old.texts }
         ensures sent { sent self.new.chapters ≡ sent self.old.chapters ++ chapters.old.items }
         ensures none { chapters.new.items ≡ [] }
+        ensures log { self.new.log ≡ self.old.log }
     {
         let is_asked = !chapters.is_empty() || self.shelf.retries();
         give_all(rt, &mut self.chapters, &self.shelf, &self.wake, chapters);
@@ -108,7 +118,8 @@ impl<S: ChapterSink + Drop> LiveListeners<S> {
         }
     }
 
-    /// Keeps the chapters that wait, and the last one after them.
+    /// Keeps the chapters that wait, and the last one after them. Where the journal could not be written none is: the
+    /// journals have all that was told.
     fn keep_last<R: Threads + Wait>(
         &self,
         rt: &R,
@@ -118,6 +129,9 @@ impl<S: ChapterSink + Drop> LiveListeners<S> {
         self.shelf.close(rt);
         let Kept { mut archive, taken } = keeper.join(rt);
         taken?;
+        if let Some(stop) = self.log.stop() {
+            return Err(stop);
+        }
         archive.keep_last(party.fleet.session.world.chapter())
     }
 
@@ -126,32 +140,51 @@ impl<S: ChapterSink + Drop> LiveListeners<S> {
     pub(crate) fn end<R: Threads + Wait>(&mut self, rt: &R, party: &Party) -> Result<(), Stop>
         ensures texts { self.new.texts ≡ self.old.texts }
         ensures chapters { self.new.chapters ≡ self.old.chapters }
+        ensures log { self.new.log ≡ self.old.log }
     {
         if let Some(keeper) = self.keeper.take() {
             self.last = Some(self.keep_last(rt, party, keeper));
         }
         self.last.unwrap_or(Ok(()))
     }
-}
 
-impl<S: ChapterSink + Drop> Listeners for LiveListeners<S> {
-    ghost use Rattle.std.specs.Prelude.{map};
-    ghost use Rattle.rtrb.specs.Ring.{sent};
-    ghost use Rattle.fleet_talk.specs.Chapters.{chapter_shown};
-    ghost use Rattle.fleet_live.specs.Told.{ahead_at, handed_at};
+    /// Why the loop broke off: the journal could not be written, or memory ran out.
+    pub(crate) fn why(&self) -> Stop
+        ensures { result ≡ unwrap_or (option_map stop_for self.now.log.fault) NoMemory }
+    {
+        self.log.stop().unwrap_or(Stop::NoMemory)
+    }
 
-    ghost told = { λ l k. handed_at l.texts.items k };
+    /// Brings all entries that the journal has not yet down to the disk: those of the chapters that were handed out, and
+    /// of the one that goes on. Returns whether it has all.
+    fn bring_down(&mut self, party: &Party, chapters: &[Chapter]) -> bool
+        requires ready { (before : List (ChapterView Global)) × IsReady (log_view J.logged self.old.log.journal self.old.log.number self.old.log.entries) before (map chapter_shown chapters.now) (chapter_in party.now.fleet.session.world.core) }
+        requires sound { AreSound (map chapter_shown chapters.now) }
+        ensures texts { self.new.texts ≡ self.old.texts }
+        ensures chapters { self.new.chapters ≡ self.old.chapters }
+        ensures logged { result ≡ true → (before : List (ChapterView Global)) → IsReady (log_view J.logged self.old.log.journal self.old.log.number self.old.log.entries) before (map chapter_shown chapters.now) (chapter_in party.now.fleet.session.world.core)
+            → HasAll (log_view J.logged self.new.log.journal self.new.log.number self.new.log.entries) (before ++ map chapter_shown chapters.now) (chapter_in party.now.fleet.session.world.core) false }
+    {
+        let chapter = party.fleet.session.world.chapter();
+        self.log.bring_down(chapters, chapter)
+    }
 
-    ghost ahead = { λ l k. ahead_at l.texts.items k };
-
-    ghost kept = { λ l. map chapter_shown (sent l.chapters) };
-
-    fn hand<R: Alloc<A = Global> + Clock + Threads + Wait>(
+    /// Hands on what was said, as much as its readers have room for, and all chapters.
+    fn hand_on<R: Threads + Wait>(
         &mut self,
         rt: &R,
         party: &Party,
         out: &mut Outboxes,
-    ) -> Result<(), AllocError> {
+    ) -> Result<(), AllocError>
+        // Of each call: only a call with a condition may hand on closures.
+        requires number { 0 ≤ party.now.fleet.session.world.core.number }
+        requires within { (k : ℕ) → ahead_at self.old.texts.items k ≤ length (text_at (out_of out.old) k) }
+        requires sound { AreSound (out_of out.old).chapters }
+        ensures hands { OnOk result (HandsOn (handed_at self.old.texts.items) (handed_at self.new.texts.items) (ahead_at self.old.texts.items) (ahead_at self.new.texts.items)
+            (map chapter_shown (sent self.old.chapters)) (map chapter_shown (sent self.new.chapters)) (out_of out.old) (out_of out.new)) }
+        ensures none { OnOk result ((out_of out.new).chapters ≡ []) }
+        ensures log { self.new.log ≡ self.old.log }
+    {
         hand_texts(rt, &mut self.texts, &mut out.texts, party.has_ended)?;
         self.hand_chapters(rt, &mut out.chapters);
         if !party.has_ended {
@@ -160,5 +193,33 @@ impl<S: ChapterSink + Drop> Listeners for LiveListeners<S> {
         // Whether all were kept is told once everything else is.
         let _kept = self.end(rt, party);
         Ok(())
+    }
+}
+
+impl<S: ChapterSink + Drop, J: Journal + Drop> Listeners for LiveListeners<S, J> {
+    ghost use Rattle.std.specs.Prelude.{map};
+    ghost use Rattle.rtrb.specs.Ring.{sent};
+    ghost use Rattle.fleet_talk.specs.Chapters.{chapter_shown};
+    ghost use Rattle.fleet_live.specs.Logged.{log_view};
+    ghost use Rattle.fleet_live.specs.Told.{ahead_at, handed_at};
+
+    ghost told = { λ l k. handed_at l.texts.items k };
+
+    ghost ahead = { λ l k. ahead_at l.texts.items k };
+
+    ghost kept = { λ l. map chapter_shown (sent l.chapters) };
+
+    ghost log = { λ l. log_view J.logged l.log.journal l.log.number l.log.entries };
+
+    fn hand<R: Alloc<A = Global> + Clock + Threads + Wait>(
+        &mut self,
+        rt: &R,
+        party: &Party,
+        out: &mut Outboxes,
+    ) -> Result<(), AllocError> {
+        if !self.bring_down(party, &out.chapters) {
+            return Err(AllocError);
+        }
+        self.hand_on(rt, party, out)
     }
 }

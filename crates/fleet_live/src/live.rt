@@ -1,22 +1,24 @@
 //! A fleet in real time, as a whole.
 
-ghost use Rattle.std.specs.Prelude.{◌≡◌, ◌≤◌, ◌↔◌, ◌⊎◌, ℕ, List, Err, Some, vec_len};
+ghost use Rattle.std.specs.Prelude.{◌≡◌, ◌≤◌, ◌↔◌, ◌⊎◌, ℕ, List, Err, IfErr, Some, vec_len};
 ghost use Rattle.fleet_bridge.specs.Roominess.{AreRoomyFor};
 ghost use Rattle.fleet_text.specs.Kit.{kit_laws};
 ghost use Rattle.fleet_core.specs.Hooks.{laws_of};
 ghost use Rattle.fleet_core.specs.OpeningFaults.{IsNamed as IsNamedFault, IsRefused};
 ghost use Rattle.fleet_talk.specs.Heading.{drafted};
-ghost use Rattle.fleet_live.specs.Ended.{IsRefusedHead};
+ghost use Rattle.fleet_talk.specs.Manners.{IsFresh};
+ghost use Rattle.fleet_live.specs.Ended.{IsEnded, IsRefusedHead};
 
 use crate::desk::Site;
 use crate::ended::unopened;
+use crate::manner::planned_fleet;
 use crate::opening::Opening;
 use crate::serving::serve;
 use fleet_core::OpenFault;
 use fleet_script::Head;
 use fleet_talk::{ChapterSink, Door, Ground, TALK_LIMITS, TalkFault, counted, door_for};
 use fleet_world::Session;
-use live_parts::{LiveEnds, LiveSettings};
+use live_parts::{Journal, LiveEnds, LiveSettings};
 use std::alloc::{Alloc, AllocError, Global};
 use std::io::{Read, Write};
 use std::mem;
@@ -32,6 +34,39 @@ fn robots_in(head: &Head) -> u32 {
     }
 }
 
+/// Lets a fleet of which nothing was done hear its clients until it has ended, its ticks planned in the manner of the
+/// settings. Returns whether a limit was met.
+pub(crate) fn serve_planned<
+    R: Alloc<A = Global> + Clock + Threads + Sync + Wait + Copy + Send + Drop + 'static,
+    I: Read + Send + Drop + 'static,
+    W: Write + Send + Drop + 'static,
+    P: Read + Send + Drop + 'static,
+    Q: Write + Send + Drop + 'static,
+    E: Write + Send + Drop + 'static,
+    S: ChapterSink + Send + Drop + 'static,
+    J: Journal + Drop,
+>(
+    rt: &R,
+    session: Session,
+    door: Door,
+    site: Site,
+    ends: LiveEnds<I, W, P, Q, E, S, J>,
+) -> Result<bool, TalkFault>
+    requires number { 0 ≤ session.world.core.number }
+    requires fresh { IsFresh session.world.core }
+    requires door { AreRoomyFor session.world.core.floor door.roominess.items }
+    ensures opened { IfErr result IsEnded }
+{
+    match planned_fleet(session, door, site.settings.manner) {
+        Ok((session, door)) => {
+            let mut ends = ends;
+            ends.sink.opened(&door);
+            serve(rt, session, door, site, ends)
+        }
+        Err(fault) => Err(fault),
+    }
+}
+
 /// Keeps the fleet of an opening, to its end.
 fn keep_fleet<
     R: Alloc<A = Global> + Clock + Threads + Sync + Wait + Copy + Send + Drop + 'static,
@@ -41,12 +76,13 @@ fn keep_fleet<
     Q: Write + Send + Drop + 'static,
     E: Write + Send + Drop + 'static,
     S: ChapterSink + Send + Drop + 'static,
+    J: Journal + Drop,
 >(
     rt: &R,
     opening: Opening,
     settings: LiveSettings,
     door: Door,
-    ends: LiveEnds<I, W, P, Q, E, S>,
+    ends: LiveEnds<I, W, P, Q, E, S, J>,
 ) -> Result<bool, TalkFault>
     // Of each call: only a call with a condition may hand on closures.
     requires hooks { 0 ≤ vec_len opening.hooks.ties }
@@ -66,9 +102,7 @@ fn keep_fleet<
         Ok(session) => session,
         Err(fault) => return Err(unopened(fault)),
     };
-    let mut ends = ends;
-    ends.sink.opened(&door);
-    serve(rt, session, door, Site { settings, cells }, ends)
+    serve_planned(rt, session, door, Site { settings, cells }, ends)
 }
 
 /// Keeps the fleet that the head names, with this door.
@@ -80,12 +114,13 @@ fn keep_ground<
     Q: Write + Send + Drop + 'static,
     E: Write + Send + Drop + 'static,
     S: ChapterSink + Send + Drop + 'static,
+    J: Journal + Drop,
 >(
     rt: &R,
     ground: Ground,
     settings: LiveSettings,
     door: Door,
-    ends: LiveEnds<I, W, P, Q, E, S>,
+    ends: LiveEnds<I, W, P, Q, E, S, J>,
 ) -> Result<bool, TalkFault>
     // Of each call: only a call with a condition may hand on closures.
     requires hooks { 0 ≤ vec_len ground.kit.plain.ties }
@@ -107,7 +142,8 @@ fn keep_ground<
 /// told, and makes turns at their deadlines, or where a line asks for them. It ends where the first conversation does.
 /// Each chapter goes to the sink when it is handed out, and the last at the end. Returns whether a limit was met.
 ///
-/// If the fleet cannot be opened, the fault is `Opening` with the first reason that stands, or `NoMemory`.
+/// If the fleet cannot be opened, the fault is `Opening` with the first reason that stands, then `NoRooms` if its robots were
+/// to take turns and the rooms of the map do not pass their checks, or `NoMemory`.
 pub fn keep_live<
     R: Alloc<A = Global> + Clock + Threads + Sync + Wait + Copy + Send + Drop + 'static,
     I: Read + Send + Drop + 'static,
@@ -116,11 +152,12 @@ pub fn keep_live<
     Q: Write + Send + Drop + 'static,
     E: Write + Send + Drop + 'static,
     S: ChapterSink + Send + Drop + 'static,
+    J: Journal + Drop,
 >(
     rt: &R,
     ground: Ground,
     settings: LiveSettings,
-    ends: LiveEnds<I, W, P, Q, E, S>,
+    ends: LiveEnds<I, W, P, Q, E, S, J>,
 ) -> Result<bool, TalkFault>
     // Of each call: only a call with a condition may hand on closures.
     requires { 0 ≤ vec_len ground.kit.plain.ties }

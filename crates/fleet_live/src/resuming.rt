@@ -5,15 +5,18 @@ ghost use Rattle.fleet_bridge.specs.Roominess.{AreRoomyFor};
 ghost use Rattle.fleet_text.specs.Kit.{kit_laws};
 ghost use Rattle.fleet_talk.specs.Chapters.{chapter_shown};
 ghost use Rattle.fleet_talk.specs.Heading.{drafted};
+ghost use Rattle.fleet_talk.specs.Manners.{IsFresh};
 ghost use Rattle.fleet_talk.specs.Resumed.{IsRefusal, IsResumeFault, MayResume, world_after};
 
 use crate::desk::Site;
-use crate::serving::serve;
+use crate::live::serve_planned;
 use fleet_core::World;
 use fleet_history::Chapter;
-use fleet_talk::{ChapterSink, Door, Ground, ResumeFault, Settings, TalkFault, world_with_door};
+use fleet_talk::{
+    ChapterSink, Door, Ground, Manner, ResumeFault, Settings, TalkFault, world_with_door,
+};
 use fleet_world::Session;
-use live_parts::{LiveEnds, LiveSettings};
+use live_parts::{Journal, LiveEnds, LiveSettings};
 use std::alloc::{Alloc, AllocError, Global};
 use std::io::{Read, Write};
 use std::sync::Wait;
@@ -31,6 +34,7 @@ fn world_on(
     requires { 0 ≤ vec_len ground.kit.plain.ties }
     ensures ok { IfOk result (λ r. r.0.core ≡ world_after (kit_laws ground.kit) ground.grid (drafted ground.head) (chapter_shown chapter)) }
     ensures may { OnOk result (MayResume (kit_laws ground.kit) ground.grid (drafted ground.head) (chapter_shown chapter)) }
+    ensures fresh { IfOk result (λ r. IsFresh r.0.core) }
     ensures known { IfOk result (λ r. AreRoomyFor r.0.core.floor r.1.roominess.items) }
     ensures fault { IfErr result (λ fault. IsResumeFault roomy (kit_laws ground.kit) ground.grid (drafted ground.head) (chapter_shown chapter) fault) }
 {
@@ -38,6 +42,7 @@ fn world_on(
         marks: false,
         roll: None,
         roomy,
+        manner: Manner::Plain,
     };
     world_with_door(alloc, ground, &chapter, settings)
 }
@@ -45,7 +50,8 @@ fn world_on(
 /// Keeps a fleet in real time that goes on from a chapter: its world is that of `world_with_door`, and its orders, errands,
 /// notices and ticks are numbered on. All else is as of `keep_live`. Returns whether a limit was met.
 ///
-/// Refused as `world_with_door` is, before a line is read; out of memory may come at any point.
+/// Refused as `world_with_door` is, and then as `planned` of fleet_talk (`TalkFault::NoRooms`), before a line is read; out of
+/// memory may come at any point.
 pub fn resume_live<
     R: Alloc<A = Global> + Clock + Threads + Sync + Wait + Copy + Send + Drop + 'static,
     I: Read + Send + Drop + 'static,
@@ -54,12 +60,13 @@ pub fn resume_live<
     Q: Write + Send + Drop + 'static,
     E: Write + Send + Drop + 'static,
     S: ChapterSink + Send + Drop + 'static,
+    J: Journal + Drop,
 >(
     rt: &R,
     ground: Ground,
     chapter: Chapter,
     settings: LiveSettings,
-    ends: LiveEnds<I, W, P, Q, E, S>,
+    ends: LiveEnds<I, W, P, Q, E, S, J>,
 ) -> Result<bool, ResumeFault>
     // Of each call: only a call with a condition may hand on closures.
     requires { 0 ≤ vec_len ground.kit.plain.ties }
@@ -78,8 +85,7 @@ pub fn resume_live<
     match Session::over(rt.alloc(), world) {
         Ok(session) => {
             ends.sink.goes_on(number, clock);
-            ends.sink.opened(&door);
-            match serve(rt, session, door, Site { settings, cells }, ends) {
+            match serve_planned(rt, session, door, Site { settings, cells }, ends) {
                 Ok(limited) => Ok(limited),
                 Err(fault) => Err(ResumeFault::Talk(fault)),
             }

@@ -3,13 +3,13 @@ use Rattle.std.proofs.Common.{◌≡◌, ◌↔◌, ◌<◌, ◌≤◌, ◌⊎�
 use Rattle.std.specs.Prelude.{Ok, Err, Result, Option, Some, None, OnErr, OnOk, IfOk, IfSome}
 use Rattle.fleet_history.specs.History.{History, history_of}
 use Rattle.fleet_history.specs.Laws.{EachTick}
-use Rattle.fleet_planner.specs.Planned.{IsPlanned, IsAdvancingTick}
+use Rattle.mover.specs.Moving.{IsPlannedAs}
 use Rattle.fleet_bound.specs.Bound.{WaitsAreBounded}
 use Rattle.fleet_bound.specs.Roomy.{AdvancesIfRoomy, HasBound}
 use Rattle.fleet_history.specs.Legal.{IsLegal}
 use Rattle.fleet_history.specs.declared.history.Chapter.{Chapter}
 use Rattle.fleet_history.proofs.Next.{next-clients}
-use Rattle.fleet_core.specs.Core.{World, next_world}
+use Rattle.fleet_core.specs.Core.{World, ServesInTurns, next_world}
 use Rattle.fleet_core.specs.declared.faults.ChapterFault.{ChapterFault}
 use Rattle.fleet_lanes.specs.Names.{LaneName}
 use Rattle.fleet_lanes.specs.Ends.{EndView}
@@ -51,22 +51,24 @@ some_is_none s = cc
 
 -- what is handed out is the chapter of a lawful hall
 pub handed : {A : Type 0} (rings : List (LaneName A)) (began : World A) (v : HallView A) (r : Result (Chapter A) ChapterFault) → IsLawful rings began v.world v.ends v.total →
-    IfOk r (λ c. history_of c ≡ v.world.history) → IfOk r (λ c. c.number ≡ v.world.number) → OnOk r (EachTick (IsPlanned v.world.floor v.world.ties) v.world.history) →
-    OnOk r (AdvancesIfRoomy v.world.floor v.world.history) →
-    OnOk r (HasBound v.world.floor v.world.history → WaitsAreBounded v.world.floor v.world.history) →
+    IfOk r (λ c. history_of c ≡ v.world.history) → IfOk r (λ c. c.number ≡ v.world.number) → OnOk r (EachTick (IsPlannedAs v.world.turns v.world.floor v.world.ties) v.world.history) →
+    OnOk r (v.world.turns ≡ None → AdvancesIfRoomy v.world.floor v.world.history) →
+    OnOk r (v.world.turns ≡ None → HasBound v.world.floor v.world.history → WaitsAreBounded v.world.floor v.world.history) →
+    OnOk r (ServesInTurns v.world.turns v.world.floor v.world.history) →
     IfOk r (λ c. (h : HallView A) × IsChapterOf rings began h c.number (history_of c))
-handed rings began v (Ok c) lawful is number planned advancing bounded = (
+handed rings began v (Ok c) lawful is number planned advancing bounded served = (
   v,
   record {
     lawful = lawful;
     history = is;
     number = number;
-    planned = subst (EachTick (IsPlanned v.world.floor v.world.ties)) (sym is) planned;
-    advancing = subst (AdvancesIfRoomy v.world.floor) (sym is) advancing;
-    bounded = subst (λ k. HasBound v.world.floor k → WaitsAreBounded v.world.floor k) (sym is) bounded;
+    planned = subst (EachTick (IsPlannedAs v.world.turns v.world.floor v.world.ties)) (sym is) planned;
+    advancing = subst (λ k. v.world.turns ≡ None → AdvancesIfRoomy v.world.floor k) (sym is) advancing;
+    bounded = subst (λ k. v.world.turns ≡ None → HasBound v.world.floor k → WaitsAreBounded v.world.floor k) (sym is) bounded;
+    served = subst (ServesInTurns v.world.turns v.world.floor) (sym is) served;
   },
 )
-handed rings began v (Err e) lawful is number planned advancing bounded = tt
+handed rings began v (Err e) lawful is number planned advancing bounded served = tt
 
 -- a grown chapter that was handed out has at least as many entries as were asked for
 pub grown-enough : {A E : Type 0} (h g : HallView A) (least : ℕ) (r : Result (Option (Chapter A)) E) → ((r ≡ Ok None) ↔ (length h.world.history.entries < least)) →
@@ -85,23 +87,25 @@ with-fact q h = ((λ x. (q, h.0 x)), (λ p. h.1 p.1))
 
 -- and is the chapter of a lawful hall
 pub grown-handed : {A E : Type 0} (rings : List (LaneName A)) (began : World A) (h g : HallView A) (r : Result (Option (Chapter A)) E) → IsLawful rings began h.world h.ends h.total →
-    EachTick (IsPlanned h.world.floor h.world.ties) h.world.history →
-    AdvancesIfRoomy h.world.floor h.world.history →
-    (HasBound h.world.floor h.world.history → WaitsAreBounded h.world.floor h.world.history) →
+    EachTick (IsPlannedAs h.world.turns h.world.floor h.world.ties) h.world.history →
+    (h.world.turns ≡ None → AdvancesIfRoomy h.world.floor h.world.history) →
+    (h.world.turns ≡ None → HasBound h.world.floor h.world.history → WaitsAreBounded h.world.floor h.world.history) →
+    ServesInTurns h.world.turns h.world.floor h.world.history →
     IfOk r (λ found. HandsOutGrown h found g) → IfOk r (λ found. IfSome found (λ c. (v : HallView A) × IsChapterOf rings began v c.number (history_of c)))
-grown-handed rings began h g (Ok None) lawful planned advancing bounded turned = tt
-grown-handed rings began h g (Ok (Some c)) lawful planned advancing bounded turned = (
+grown-handed rings began h g (Ok None) lawful planned advancing bounded served turned = tt
+grown-handed rings began h g (Ok (Some c)) lawful planned advancing bounded served turned = (
   h,
   record {
     lawful = lawful;
     history = turned.0;
     number = turned.1;
-    planned = subst (EachTick (IsPlanned h.world.floor h.world.ties)) (sym turned.0) planned;
-    advancing = subst (AdvancesIfRoomy h.world.floor) (sym turned.0) advancing;
-    bounded = subst (λ k. HasBound h.world.floor k → WaitsAreBounded h.world.floor k) (sym turned.0) bounded;
+    planned = subst (EachTick (IsPlannedAs h.world.turns h.world.floor h.world.ties)) (sym turned.0) planned;
+    advancing = subst (λ k. h.world.turns ≡ None → AdvancesIfRoomy h.world.floor k) (sym turned.0) advancing;
+    bounded = subst (λ k. h.world.turns ≡ None → HasBound h.world.floor k → WaitsAreBounded h.world.floor k) (sym turned.0) bounded;
+    served = subst (ServesInTurns h.world.turns h.world.floor) (sym turned.0) served;
   },
 )
-grown-handed rings began h g (Err e) lawful planned advancing bounded turned = tt
+grown-handed rings began h g (Err e) lawful planned advancing bounded served turned = tt
 
 abbrev hall_of : {A : Type 0} → World A → List (EndView A) → ℕ → HallView A
 hall_of w ends t = record { world = w; ends = ends; total = t }

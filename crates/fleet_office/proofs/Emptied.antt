@@ -66,6 +66,7 @@ module _ {A : Type 0} where
     floor = refl;
     limits = refl;
     ties = refl;
+    turns = refl;
     number = refl;
     box_count = refl;
     others = λ k inside apart. refl;
@@ -95,6 +96,7 @@ module _ {A : Type 0} where
         floor = ap (λ x. x.floor) wide.world ∙ d.floor;
         limits = ap (λ x. x.limits) wide.world ∙ d.limits;
         ties = ap (λ x. x.ties) wide.world ∙ d.ties;
+        turns = ap (λ x. x.turns) wide.world ∙ d.turns;
         number = ap (λ x. x.number) wide.world ∙ d.number;
         box_count = ap (λ x. length x.mailboxes) wide.world ∙ length-set v.mailboxes c b ∙ d.box_count;
         others = λ k there apart. ap (λ x. pending x k) wide.world ∙ get_or-set_other v.mailboxes c k b no_pending apart ∙ d.others k there apart;
@@ -122,6 +124,7 @@ module _ {A : Type 0} where
         floor = ap (λ x. x.floor) takes.world ∙ d.floor;
         limits = ap (λ x. x.limits) takes.world ∙ d.limits;
         ties = ap (λ x. x.ties) takes.world ∙ d.ties;
+        turns = ap (λ x. x.turns) takes.world ∙ d.turns;
         number = ap (λ x. x.number) takes.world ∙ d.number;
         box_count = ap (λ x. length x.mailboxes) takes.world ∙ length-delivered v.history en 0 v.mailboxes ∙ d.box_count;
         others = λ k there apart.

@@ -1,5 +1,5 @@
 -- What holds of a history that was handed out.
-use Rattle.std.proofs.Common.{◌≡◌, ◌++◌, ℕ, List, sym, ap, ◌∙◌, subst, arith, append_assoc}
+use Rattle.std.proofs.Common.{◌≡◌, ◌++◌, ℕ, List, Option, None, sym, ap, ◌∙◌, subst, arith, append_assoc}
 use Rattle.std.specs.Prelude.{slice_get, Vec, Result, Ok, Err, IfOk}
 use Rattle.std.proofs.lemmas.Option.{slice_get_within}
 use Rattle.fleet_book.specs.declared.notice.Notice.{Notice}
@@ -9,10 +9,11 @@ use Rattle.fleet_history.specs.Legal.{IsLegal}
 use Rattle.fleet_history.specs.Laws.{EachTick, orders}
 use Rattle.fleet_history.specs.Notices.{notices}
 use Rattle.fleet_history.specs.Rings.{KeepsRing}
-use Rattle.fleet_planner.specs.Planned.{IsPlanned}
+use Rattle.turns_law.specs.Turns.{Turns}
+use Rattle.mover.specs.Moving.{IsPlannedAs}
 use Rattle.fleet_bound.specs.Bound.{WaitsAreBounded}
 use Rattle.fleet_bound.specs.Roomy.{AdvancesIfRoomy, HasBound}
-use Rattle.fleet_core.specs.Core.{World, pending}
+use Rattle.fleet_core.specs.Core.{World, ServesInTurns, pending}
 use Rattle.fleet_lanes.specs.Names.{LaneName}
 use Rattle.fleet_lanes.specs.Ends.{EndView, ClientView}
 use Rattle.fleet_office.specs.Since.{GoesOn, IsSince, IsChapterSince}
@@ -28,17 +29,21 @@ module _ {A : Type 0} (w v : World A) (m : Floor) (h : History A) (floor : m ≡
   pub legal-ended : IsLegal v.floor v.history → IsLegal m h
   legal-ended l = subst (λ k. IsLegal m k) (sym history) (subst (λ k. IsLegal k v.history) (sym floor) l)
 
-  pub planned-ended : EachTick (IsPlanned v.floor v.ties) v.history → EachTick (IsPlanned m w.ties) h
-  planned-ended p = subst (λ t. EachTick (IsPlanned m t) h) same.ties
-      (subst (λ k. EachTick (IsPlanned m v.ties) k) (sym history) (subst (λ k. EachTick (IsPlanned k v.ties) v.history) (sym floor) p))
+  -- what holds of the turns, the map and the history
+  as-ended : (P : Option Turns → Floor → History A → Type 0) → P v.turns v.floor v.history → P w.turns m h
+  as-ended P p = subst (λ k. P w.turns m k) (sym history) (subst (λ k. P w.turns k v.history) (sym floor) (subst (λ t. P t v.floor v.history) same.turns p))
 
-  pub advancing-ended : AdvancesIfRoomy v.floor v.history → AdvancesIfRoomy m h
-  advancing-ended p = subst (λ k. AdvancesIfRoomy m k) (sym history)
-      (subst (λ k. AdvancesIfRoomy k v.history) (sym floor) p)
+  pub planned-ended : EachTick (IsPlannedAs v.turns v.floor v.ties) v.history → EachTick (IsPlannedAs w.turns m w.ties) h
+  planned-ended p = subst (λ t. EachTick (IsPlannedAs w.turns m t) h) same.ties (as-ended (λ turns k g. EachTick (IsPlannedAs turns k v.ties) g) p)
 
-  pub bounded-ended : (HasBound v.floor v.history → WaitsAreBounded v.floor v.history) → HasBound m h → WaitsAreBounded m h
-  bounded-ended p = subst (λ k. HasBound m k → WaitsAreBounded m k) (sym history)
-      (subst (λ k. HasBound k v.history → WaitsAreBounded k v.history) (sym floor) p)
+  pub advancing-ended : (v.turns ≡ None → AdvancesIfRoomy v.floor v.history) → w.turns ≡ None → AdvancesIfRoomy m h
+  advancing-ended = as-ended (λ turns k g. turns ≡ None → AdvancesIfRoomy k g)
+
+  pub bounded-ended : (v.turns ≡ None → HasBound v.floor v.history → WaitsAreBounded v.floor v.history) → w.turns ≡ None → HasBound m h → WaitsAreBounded m h
+  bounded-ended = as-ended (λ turns k g. turns ≡ None → HasBound k g → WaitsAreBounded k g)
+
+  pub served-ended : ServesInTurns v.turns v.floor v.history → ServesInTurns w.turns m h
+  served-ended = as-ended (λ turns k g. ServesInTurns turns k g)
 
 module _ {A : Type 0} (rings : List (LaneName A)) (began : World A) (w : World A) (ends : List (EndView A)) (t : ℕ) (law : IsLawful rings began w ends t) where
   -- what each client was told, once its lane is empty
@@ -91,7 +96,14 @@ last-since {A = A} began count hall cs (Ok x) floor number history since last =
     (ap (λ (h : History A). h.opening) last.history ∙ first_opening count hall.ends cs hall.world last.world last.drains)
 last-since began count hall cs (Err e) floor number history since last = tt
 
+-- what holds of it with the turns of the last world holds with those of its beginning
+pub last-as : {A X E : Type 0} (began w : World A) (r : Result X E) (P : Option Turns → X → Type 0) → w.turns ≡ began.turns → IfOk r (P w.turns) → IfOk r (P began.turns)
+last-as began w r P same holds = subst (λ turns. IfOk r (P turns)) same holds
+
 -- and its ticks are planned by the ties of its beginning
 pub last-planned : {A X E : Type 0} (began w : World A) (r : Result X E) (floor : X → Floor) (history : X → History A) →
-    w.ties ≡ began.ties → IfOk r (λ x. EachTick (IsPlanned (floor x) w.ties) (history x)) → IfOk r (λ x. EachTick (IsPlanned (floor x) began.ties) (history x))
-last-planned began w r floor history same planned = subst (λ ties. IfOk r (λ x. EachTick (IsPlanned (floor x) ties) (history x))) same planned
+    w.ties ≡ began.ties → w.turns ≡ began.turns → IfOk r (λ x. EachTick (IsPlannedAs w.turns (floor x) w.ties) (history x)) →
+    IfOk r (λ x. EachTick (IsPlannedAs began.turns (floor x) began.ties) (history x))
+last-planned began w r floor history same turns planned =
+    last-as began w r (λ u x. EachTick (IsPlannedAs u (floor x) began.ties) (history x)) turns
+    (subst (λ ties. IfOk r (λ x. EachTick (IsPlannedAs w.turns (floor x) ties) (history x))) same planned)

@@ -24,7 +24,7 @@ set_own (x ∷ xs) (suc i) d l = ap (λ ys. x ∷ ys) (set_own xs i d (omega ari
 
 module _ {A : Type 0} where
   abbrev pub with_boxes : World A → List Pending → World A
-  with_boxes w boxes = record { floor = w.floor; limits = w.limits; ties = w.ties; number = w.number; history = w.history; mailboxes = boxes }
+  with_boxes w boxes = record { floor = w.floor; limits = w.limits; ties = w.ties; turns = w.turns; number = w.number; history = w.history; mailboxes = boxes }
 
   pub box_handed : (w : World A) (c : ℕ) (left : List Notice) → c < length w.mailboxes → pending (handed w c left) c ≡ record { notices = left; limit = (pending w c).limit }
   box_handed w c left inside = get_or-set_same w.mailboxes c (record { notices = left; limit = (pending w c).limit }) no_pending inside

@@ -94,7 +94,7 @@ module _ {A : Type 0} (rings : List (LaneName A)) (began : World A) where
     ring_count = h.ring_count;
     few = h.few;
     valid = h.valid;
-    since = since-same began w (grown w e) refl refl refl refl refl h.since;
+    since = since-same began w (grown w e) refl refl refl refl refl refl h.since;
   }
 
   -- a tick that the ledger counted
@@ -123,7 +123,7 @@ module _ {A : Type 0} (rings : List (LaneName A)) (began : World A) where
         ring_count = length-set ends c (took e o known) ∙ h.ring_count;
         few = omega (arith, length-set ends c (took e o known), h.few);
         valid = h.valid;
-        since = since-same began w (grown w en) refl refl refl refl refl h.since;
+        since = since-same began w (grown w en) refl refl refl refl refl refl h.since;
       }
 
   lawful_handed : (w : World A) (ends : List (EndView A)) (t c : ℕ) (e d : EndView A) (moved left : List Notice) → slice_get ends c ≡ Some e →
@@ -150,7 +150,7 @@ module _ {A : Type 0} (rings : List (LaneName A)) (began : World A) where
         ring_count = length-set ends c d ∙ h.ring_count;
         few = omega (arith, length-set ends c d, h.few);
         valid = h.valid;
-        since = since-same began w (handed w c left) refl refl refl refl refl h.since;
+        since = since-same began w (handed w c left) refl refl refl refl refl refl h.since;
       }
 
   -- notices went from the mailbox to the outlet

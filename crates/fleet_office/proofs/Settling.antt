@@ -111,11 +111,11 @@ module _ {A : Type 0} where
       subst (λ m. DrainsFirst m ends cs w u) e done
 
   -- no more than histories and mailboxes change
-  pub first_frame : (k : ℕ) (ends : List (EndView A)) (cs : List (ClientCore A)) (w v : World A) → DrainsFirst k ends cs w v → (v.floor ≡ w.floor) × (v.ties ≡ w.ties) × (v.number ≡ w.number)
-  first_frame zero ends cs w v same = (ap (λ x. x.floor) same, ap (λ x. x.ties) same, ap (λ x. x.number) same)
+  pub first_frame : (k : ℕ) (ends : List (EndView A)) (cs : List (ClientCore A)) (w v : World A) → DrainsFirst k ends cs w v → (v.floor ≡ w.floor) × (v.ties ≡ w.ties) × (v.number ≡ w.number) × (v.turns ≡ w.turns)
+  first_frame zero ends cs w v same = (ap (λ x. x.floor) same, ap (λ x. x.ties) same, ap (λ x. x.number) same, ap (λ x. x.turns) same)
   first_frame (suc k) ends cs w v d =
       let b = first_frame k ends cs w d.0 d.3 in
-      (d.4.0.floor ∙ b.0, d.4.0.ties ∙ b.1, d.4.0.number ∙ b.2)
+      (d.4.0.floor ∙ b.0, d.4.0.ties ∙ b.1, d.4.0.number ∙ b.2, d.4.0.turns ∙ b.3)
 
   pub first_opening : (k : ℕ) (ends : List (EndView A)) (cs : List (ClientCore A)) (w v : World A) → DrainsFirst k ends cs w v → v.history.opening ≡ w.history.opening
   first_opening zero ends cs w v same = ap (λ x. x.history.opening) same

@@ -31,15 +31,16 @@ use Rattle.fleet_office.specs.Since.{GoesOn, IsSince, IsChapterSince}
 
 module _ {A : Type 0} (began : World A) where
   pub since-begins : began.history.entries ≡ [] → IsLegal began.floor began.history → IsSince began began
-  since-begins none lawful = record { begun = none; legal = lawful; floor = refl; limits = refl; ties = refl; robots = refl; later = omega arith; opening = λ same. refl }
+  since-begins none lawful = record { begun = none; legal = lawful; floor = refl; limits = refl; ties = refl; turns = refl; robots = refl; later = omega arith; opening = λ same. refl }
 
-  pub since-same : (w v : World A) → v.floor ≡ w.floor → v.limits ≡ w.limits → v.ties ≡ w.ties → v.number ≡ w.number → v.history.opening ≡ w.history.opening → IsSince began w → IsSince began v
-  since-same w v floor limits ties number opening h = record {
+  pub since-same : (w v : World A) → v.floor ≡ w.floor → v.limits ≡ w.limits → v.ties ≡ w.ties → v.turns ≡ w.turns → v.number ≡ w.number → v.history.opening ≡ w.history.opening → IsSince began w → IsSince began v
+  since-same w v floor limits ties turns number opening h = record {
     begun = h.begun;
     legal = h.legal;
     floor = floor ∙ h.floor;
     limits = limits ∙ h.limits;
     ties = ties ∙ h.ties;
+    turns = turns ∙ h.turns;
     robots = ap (λ (o : Opening A). length o.robots) opening ∙ h.robots;
     later = omega (arith, h.later, number);
     opening = λ same. opening ∙ h.opening (sym number ∙ same);
@@ -52,6 +53,7 @@ module _ {A : Type 0} (began : World A) where
     floor = h.floor;
     limits = h.limits;
     ties = h.ties;
+    turns = h.turns;
     robots = length-map (range_with_len 0 (robots w.history)) (robot_after w.history) ∙ length-range_with_len 0 (robots w.history) ∙ h.robots;
     later = omega (arith, h.later);
     opening = λ same. absurd (omega (arith, h.later, same));

@@ -54,7 +54,7 @@ module _ {A : Type 0} where
     later = λ j x more at. (there j x at, refl);
     same = λ j more. refl;
     as_many = refl;
-    kept = record { floor = refl; ties = refl; number = refl; history = refl };
+    kept = record { floor = refl; ties = refl; turns = refl; number = refl; history = refl };
   }
 
   apart : (cs : List (ClientView A)) (i j : ℕ) (x y : ClientView A) → AreDistinct (cores cs) → slice_get cs i ≡ Some x → slice_get cs j ≡ Some y → i ≢ j → x.number ≢ y.number
@@ -89,6 +89,7 @@ module _ {A : Type 0} where
         kept = record {
           floor = ap (λ y. y.floor) world ∙ r.kept.floor;
           ties = ap (λ y. y.ties) world ∙ r.kept.ties;
+          turns = ap (λ y. y.turns) world ∙ r.kept.turns;
           number = ap (λ y. y.number) world ∙ r.kept.number;
           history = ap (λ y. y.history) world ∙ r.kept.history;
         };

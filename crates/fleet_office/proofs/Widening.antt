@@ -37,7 +37,7 @@ module _ {A : Type 0} (rings : List (LaneName A)) (began : World A) where
     ring_count = h.ring_count;
     few = h.few;
     valid = h.valid;
-    since = since-same began w (with_limit w c wide.limit) refl refl refl refl refl h.since;
+    since = since-same began w (with_limit w c wide.limit) refl refl refl refl refl refl h.since;
   }
 
   -- an order that was left was taken

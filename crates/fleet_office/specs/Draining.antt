@@ -26,6 +26,7 @@ with_limit w c limit = record {
   floor = w.floor;
   limits = w.limits;
   ties = w.ties;
+  turns = w.turns;
   number = w.number;
   history = w.history;
   mailboxes = slice_set w.mailboxes c (record { notices = (pending w c).notices; limit = limit });
@@ -54,6 +55,7 @@ pub record Drains {A : Type 0} (w : World A) (c n : ℕ) (v : World A) : Type 0 
   pub floor : v.floor ≡ w.floor
   pub limits : v.limits ≡ w.limits
   pub ties : v.ties ≡ w.ties
+  pub turns : v.turns ≡ w.turns
   pub number : v.number ≡ w.number
   pub box_count : length v.mailboxes ≡ length w.mailboxes
   pub others : (k : ℕ) → k < length w.mailboxes → k ≢ c → pending v k ≡ pending w k

@@ -110,6 +110,7 @@ handed w c left = record {
   floor = w.floor;
   limits = w.limits;
   ties = w.ties;
+  turns = w.turns;
   number = w.number;
   history = w.history;
   mailboxes = slice_set w.mailboxes c (record { notices = left; limit = (pending w c).limit });

@@ -1,5 +1,5 @@
 -- The world that an office begins with, and what goes on from it.
-use Rattle.std.specs.Prelude.{ℕ, ◌+◌, ◌≡◌, ◌≤◌, List, [], ◌++◌, map, length}
+use Rattle.std.specs.Prelude.{ℕ, ◌+◌, ◌≡◌, ◌≤◌, List, [], ◌++◌, None, map, length}
 use Rattle.std.specs.List.{flat_map}
 use Rattle.fleet_grid.specs.Floor.{Floor}
 use Rattle.fleet_book.specs.declared.notice.Notice.{Notice}
@@ -12,13 +12,14 @@ use Rattle.fleet_history.specs.Numbering.{numbers_behind, order_number, accepted
 use Rattle.fleet_history.specs.Rings.{IsEndOf, KeepsRing}
 use Rattle.fleet_core.specs.Core.{World}
 
--- the world of an office that began with the first world: of the same map, limits and tie laws, in the same chapter or a later one
+-- the world of an office that began with the first world: of the same map, limits, tie laws and turns, in the same chapter or a later one
 pub record IsSince {A : Type 0} (began w : World A) : Type 0 where
   pub begun : began.history.entries ≡ []
   pub legal : IsLegal began.floor began.history
   pub floor : w.floor ≡ began.floor
   pub limits : w.limits ≡ began.limits
   pub ties : w.ties ≡ began.ties
+  pub turns : w.turns ≡ began.turns
   pub robots : robots w.history ≡ robots began.history
   pub later : began.number ≤ w.number
   pub opening : w.number ≡ began.number → w.history.opening ≡ began.history.opening
@@ -51,6 +52,7 @@ no_world = record {
   floor = record { height = 0; width = 0; letters = [] };
   limits = record { lane = 0; outlet = 0; queue = 0; mailbox = 0; life = 0; orders = 0; clock = 0; chapter = 0; chapters = 0 };
   ties = [];
+  turns = None;
   number = 0;
   history = record { opening = record { tick = 0; queue = 0; life = 0; clients = []; robots = [] }; entries = [] };
   mailboxes = [];

@@ -4,9 +4,10 @@ ghost use Rattle.std.specs.Prelude.{◌≡◌, ◌+◌, ◌<◌, ◌≤◌, ◌^
 ghost use Rattle.fleet_history.specs.History.{history_of};
 ghost use Rattle.fleet_history.specs.Laws.{EachTick};
 ghost use Rattle.fleet_history.specs.Legal.{IsLegal};
-ghost use Rattle.fleet_planner.specs.Planned.{IsPlanned};
+ghost use Rattle.mover.specs.Moving.{IsPlannedAs};
 ghost use Rattle.fleet_bound.specs.Bound.{WaitsAreBounded};
 ghost use Rattle.fleet_bound.specs.Roomy.{AdvancesIfRoomy, HasBound};
+ghost use Rattle.fleet_core.specs.Core.{ServesInTurns};
 ghost use Rattle.fleet_office.specs.Chapters.{IsChapterOf, HandsOutGrown};
 ghost use Rattle.fleet_office.specs.Hall.{HallView, IsLawful, next_hall};
 
@@ -26,9 +27,10 @@ impl<N: OfficeName<A>, A: Allocator + Copy> HallState<N, A> {
         ensures history { IfOk result (λ chapter. history_of chapter ≡ self.old.world.history) }
         ensures number { IfOk result (λ chapter. chapter.number ≡ self.old.world.number) }
         ensures legal { OnOk result (IsLegal self.old.world.floor self.old.world.history) }
-        ensures planned { OnOk result (EachTick (IsPlanned self.old.world.floor self.old.world.ties) self.old.world.history) }
-        ensures advancing { OnOk result (AdvancesIfRoomy self.old.world.floor self.old.world.history) }
-        ensures bounded { OnOk result (HasBound self.old.world.floor self.old.world.history → WaitsAreBounded self.old.world.floor self.old.world.history) }
+        ensures planned { OnOk result (EachTick (IsPlannedAs self.old.world.turns self.old.world.floor self.old.world.ties) self.old.world.history) }
+        ensures advancing { OnOk result (self.old.world.turns ≡ None → AdvancesIfRoomy self.old.world.floor self.old.world.history) }
+        ensures bounded { OnOk result (self.old.world.turns ≡ None → HasBound self.old.world.floor self.old.world.history → WaitsAreBounded self.old.world.floor self.old.world.history) }
+        ensures served { OnOk result (ServesInTurns self.old.world.turns self.old.world.floor self.old.world.history) }
         ensures next { OnOk result (self.new ≡ next_hall self.old) }
         ensures err { OnErr result (self.new ≡ self.old) }
     {
@@ -67,9 +69,10 @@ impl<N: OfficeName<A>, A: Allocator + Copy> Hall<N, A> {
         ensures history { IfOk result (λ chapter. history_of chapter ≡ self.old.state.world.history) }
         ensures number { IfOk result (λ chapter. chapter.number ≡ self.old.state.world.number) }
         ensures legal { OnOk result (IsLegal self.old.state.world.floor self.old.state.world.history) }
-        ensures planned { OnOk result (EachTick (IsPlanned self.old.state.world.floor self.old.state.world.ties) self.old.state.world.history) }
-        ensures advancing { OnOk result (AdvancesIfRoomy self.old.state.world.floor self.old.state.world.history) }
-        ensures bounded { OnOk result (HasBound self.old.state.world.floor self.old.state.world.history → WaitsAreBounded self.old.state.world.floor self.old.state.world.history) }
+        ensures planned { OnOk result (EachTick (IsPlannedAs self.old.state.world.turns self.old.state.world.floor self.old.state.world.ties) self.old.state.world.history) }
+        ensures advancing { OnOk result (self.old.state.world.turns ≡ None → AdvancesIfRoomy self.old.state.world.floor self.old.state.world.history) }
+        ensures bounded { OnOk result (self.old.state.world.turns ≡ None → HasBound self.old.state.world.floor self.old.state.world.history → WaitsAreBounded self.old.state.world.floor self.old.state.world.history) }
+        ensures served { OnOk result (ServesInTurns self.old.state.world.turns self.old.state.world.floor self.old.state.world.history) }
         ensures next { OnOk result (self.new.state ≡ next_hall self.old.state) }
         ensures err { OnErr result (self.new.state ≡ self.old.state) }
     {

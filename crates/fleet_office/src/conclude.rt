@@ -1,13 +1,14 @@
 //! The end of an office.
 
-ghost use Rattle.std.specs.Prelude.{◌≡◌, ◌+◌, ◌<◌, ◌≤◌, ◌⊎◌, ℕ, length, Err, IfOk, IfErr, OnOk, OnErr};
+ghost use Rattle.std.specs.Prelude.{◌≡◌, ◌+◌, ◌<◌, ◌≤◌, ◌⊎◌, ℕ, length, None, Err, IfOk, IfErr, OnOk, OnErr};
 ghost use Rattle.std.specs.List.{sum_by};
 ghost use Rattle.fleet_history.specs.History.{history_of, clock};
 ghost use Rattle.fleet_history.specs.Legal.{IsLegal};
 ghost use Rattle.fleet_history.specs.Laws.{EachTick};
-ghost use Rattle.fleet_planner.specs.Planned.{IsPlanned};
+ghost use Rattle.mover.specs.Moving.{IsPlannedAs};
 ghost use Rattle.fleet_bound.specs.Bound.{WaitsAreBounded};
 ghost use Rattle.fleet_bound.specs.Roomy.{AdvancesIfRoomy, HasBound};
+ghost use Rattle.fleet_core.specs.Core.{ServesInTurns};
 ghost use Rattle.fleet_office.specs.Views.{AreOn, AreDistinct, AreSettled, cores};
 ghost use Rattle.fleet_office.specs.Draining.{DrainsFirst};
 ghost use Rattle.fleet_office.specs.inside.Leftovers.{AreRooms};
@@ -134,9 +135,10 @@ impl<N: OfficeName<A>, A: Allocator + Copy> HallState<N, A> {
         ensures history { history_of result.chapter ≡ self.world.history }
         ensures number { result.chapter.number ≡ self.world.number }
         ensures legal { IsLegal result.grid (history_of result.chapter) }
-        ensures planned { EachTick (IsPlanned result.grid self.world.ties) (history_of result.chapter) }
-        ensures advancing { AdvancesIfRoomy result.grid (history_of result.chapter) }
-        ensures bounded { HasBound result.grid (history_of result.chapter) → WaitsAreBounded result.grid (history_of result.chapter) }
+        ensures planned { EachTick (IsPlannedAs self.world.turns result.grid self.world.ties) (history_of result.chapter) }
+        ensures advancing { self.world.turns ≡ None → AdvancesIfRoomy result.grid (history_of result.chapter) }
+        ensures bounded { self.world.turns ≡ None → HasBound result.grid (history_of result.chapter) → WaitsAreBounded result.grid (history_of result.chapter) }
+        ensures served { ServesInTurns self.world.turns result.grid (history_of result.chapter) }
         ensures told { AreTold N.start result.chapter.number (history_of result.chapter) clients.items result.rest.items }
         ensures tick { result.tick ≡ clock self.world.history }
     {
@@ -171,9 +173,10 @@ impl<N: OfficeName<A>, A: Allocator + Copy> Hall<N, A> {
         requires on { AreOn N.rings (cores clients.items) }
         ensures drains { IfOk result (λ f. IsLast (length N.rings) self.state (cores clients.items) f.grid f.chapter.number (history_of f.chapter)) }
         ensures legal { IfOk result (λ f. IsLegal f.grid (history_of f.chapter)) }
-        ensures planned { IfOk result (λ f. EachTick (IsPlanned f.grid self.state.world.ties) (history_of f.chapter)) }
-        ensures advancing { IfOk result (λ f. AdvancesIfRoomy f.grid (history_of f.chapter)) }
-        ensures bounded { IfOk result (λ f. HasBound f.grid (history_of f.chapter) → WaitsAreBounded f.grid (history_of f.chapter)) }
+        ensures planned { IfOk result (λ f. EachTick (IsPlannedAs self.state.world.turns f.grid self.state.world.ties) (history_of f.chapter)) }
+        ensures advancing { IfOk result (λ f. self.state.world.turns ≡ None → AdvancesIfRoomy f.grid (history_of f.chapter)) }
+        ensures bounded { IfOk result (λ f. self.state.world.turns ≡ None → HasBound f.grid (history_of f.chapter) → WaitsAreBounded f.grid (history_of f.chapter)) }
+        ensures served { IfOk result (λ f. ServesInTurns self.state.world.turns f.grid (history_of f.chapter)) }
         ensures told { IfOk result (λ f. AreTold N.start f.chapter.number (history_of f.chapter) clients.items f.rest.items) }
         ensures tick { IfOk result (λ f. (f.tick ≡ clock (history_of f.chapter)) × (f.tick ≡ sum_by (λ t. t.count) tickers.items)) }
         ensures all { OnOk result (HasAll (length N.rings) clients.items) }

@@ -5,10 +5,10 @@ ghost use Rattle.fleet_history.specs.History.{clock, place, robots, is_shut, his
 ghost use Rattle.std.specs.List.{sum_by};
 ghost use Rattle.fleet_history.specs.Legal.{IsLegal};
 ghost use Rattle.fleet_history.specs.Laws.{EachTick};
-ghost use Rattle.fleet_planner.specs.Planned.{IsPlanned};
+ghost use Rattle.mover.specs.Moving.{IsPlannedAs};
 ghost use Rattle.fleet_bound.specs.Bound.{KeepsBound, WaitsAreBounded};
 ghost use Rattle.fleet_bound.specs.Roomy.{AdvancesIfRoomy, HasBound};
-ghost use Rattle.fleet_core.specs.Core.{Shuts, HasRoom, HasNoRoom, HasEntries, HasNoEntries};
+ghost use Rattle.fleet_core.specs.Core.{ServesInTurns, Shuts, HasRoom, HasNoRoom, HasEntries, HasNoEntries};
 ghost use Rattle.fleet_office.specs.Views.{TickerView};
 ghost use Rattle.fleet_office.specs.Hall.{HallView, IsLawful, ShowsOrder, TakesOne, GivesOne, GivesAll, given_count, TakesSome, TakesUntil, TakesFirst, StopsTaking, TicksOnce, Turns, StopsTurn, Looks};
 
@@ -56,10 +56,11 @@ impl<N: OfficeName<A>, A: Allocator + Copy> HallState<N, A> {
     /// States what always holds, for a proof of its caller. It does nothing.
     pub fn recall_laws(&self)
         ensures lawful { IsLawful N.rings N.start self.now.world self.now.ends self.now.total }
-        ensures planned { EachTick (IsPlanned self.now.world.floor self.now.world.ties) self.now.world.history }
-        ensures advancing { AdvancesIfRoomy self.now.world.floor self.now.world.history }
-        ensures bounded { HasBound self.now.world.floor self.now.world.history → WaitsAreBounded self.now.world.floor self.now.world.history }
-        ensures keeps_bound { HasBound self.now.world.floor self.now.world.history → KeepsBound self.now.world.floor self.now.world.history }
+        ensures planned { EachTick (IsPlannedAs self.now.world.turns self.now.world.floor self.now.world.ties) self.now.world.history }
+        ensures advancing { self.now.world.turns ≡ None → AdvancesIfRoomy self.now.world.floor self.now.world.history }
+        ensures bounded { self.now.world.turns ≡ None → HasBound self.now.world.floor self.now.world.history → WaitsAreBounded self.now.world.floor self.now.world.history }
+        ensures served { ServesInTurns self.now.world.turns self.now.world.floor self.now.world.history }
+        ensures keeps_bound { self.now.world.turns ≡ None → HasBound self.now.world.floor self.now.world.history → KeepsBound self.now.world.floor self.now.world.history }
     {
         let _ = self.core.chapter();
     }

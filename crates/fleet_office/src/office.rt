@@ -1,13 +1,14 @@
 //! The hall under its lock.
 
-ghost use Rattle.std.specs.Prelude.{◌≡◌, ◌+◌, ◌<◌, ◌≤◌, ◌^◌, ◌↔◌, length, Err, IfOk, IfErr, IfSome, OnOk, OnErr};
+ghost use Rattle.std.specs.Prelude.{◌≡◌, ◌+◌, ◌<◌, ◌≤◌, ◌^◌, ◌↔◌, length, None, Err, IfOk, IfErr, IfSome, OnOk, OnErr};
 ghost use Rattle.std.specs.List.{sum_by};
 ghost use Rattle.fleet_history.specs.History.{history_of, clock, robots};
 ghost use Rattle.fleet_history.specs.Legal.{IsLegal};
 ghost use Rattle.fleet_history.specs.Laws.{EachTick};
-ghost use Rattle.fleet_planner.specs.Planned.{IsPlanned};
+ghost use Rattle.mover.specs.Moving.{IsPlannedAs};
 ghost use Rattle.fleet_bound.specs.Bound.{WaitsAreBounded};
 ghost use Rattle.fleet_bound.specs.Roomy.{AdvancesIfRoomy, HasBound};
+ghost use Rattle.fleet_core.specs.Core.{ServesInTurns};
 ghost use Rattle.fleet_core.specs.Hooks.{laws_of};
 ghost use Rattle.fleet_core.specs.OpeningFaults.{IsRefused, IsNamed as IsNamedFault};
 ghost use Rattle.fleet_office.specs.Views.{IsNamed, AreOn, AreDistinct, cores, world_at};
@@ -99,9 +100,10 @@ impl<N: OfficeName<A>, A: Allocator + Copy> Office<N, A> {
             × IsLast (length N.rings) h (cores clients.items) f.grid f.chapter.number (history_of f.chapter)) }
         ensures legal { IfOk result (λ f. IsLegal f.grid (history_of f.chapter)) }
         ensures since { IfOk result (λ f. IsChapterSince N.start f.grid f.chapter.number (history_of f.chapter)) }
-        ensures planned { IfOk result (λ f. EachTick (IsPlanned f.grid N.start.ties) (history_of f.chapter)) }
-        ensures advancing { IfOk result (λ f. AdvancesIfRoomy f.grid (history_of f.chapter)) }
-        ensures bounded { IfOk result (λ f. HasBound f.grid (history_of f.chapter) → WaitsAreBounded f.grid (history_of f.chapter)) }
+        ensures planned { IfOk result (λ f. EachTick (IsPlannedAs N.start.turns f.grid N.start.ties) (history_of f.chapter)) }
+        ensures advancing { IfOk result (λ f. N.start.turns ≡ None → AdvancesIfRoomy f.grid (history_of f.chapter)) }
+        ensures bounded { IfOk result (λ f. N.start.turns ≡ None → HasBound f.grid (history_of f.chapter) → WaitsAreBounded f.grid (history_of f.chapter)) }
+        ensures served { IfOk result (λ f. ServesInTurns N.start.turns f.grid (history_of f.chapter)) }
         ensures told { IfOk result (λ f. AreTold N.start f.chapter.number (history_of f.chapter) clients.items f.rest.items) }
         ensures tick { IfOk result (λ f. (f.tick ≡ clock (history_of f.chapter)) × (f.tick ≡ sum_by (λ t. t.count) tickers.items)) }
         ensures all { OnOk result (HasAll (length N.rings) clients.items) }

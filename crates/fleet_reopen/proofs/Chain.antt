@@ -1,5 +1,5 @@
 -- What is promised of one chapter holds over chapters that follow one another.
-use Rattle.std.proofs.Common.{◌≡◌, ℕ, ◌<◌, List, [], ◌∷◌, ◌++◌, length, true, sym, ap, subst, ◌∙◌, arith}
+use Rattle.std.proofs.Common.{◌≡◌, ℕ, ◌<◌, ◌*◌, List, [], ◌∷◌, ◌++◌, Some, length, true, refl, sym, ap, subst, ◌∙◌, arith}
 use Rattle.std.specs.List.{flat_map}
 use Rattle.std.proofs.lemmas.List.{append-nil, append_assoc}
 use Rattle.std.proofs.lemmas.List.Concat.{flat_map-append}
@@ -7,7 +7,7 @@ use Rattle.fleet_grid.specs.Floor.{Floor}
 use Rattle.fleet_book.specs.declared.notice.Notice.{Notice}
 use Rattle.fleet_book.specs.declared.order.Order.{Order}
 use Rattle.fleet_history.specs.declared.history.Opening.{Opening}
-use Rattle.fleet_history.specs.History.{History, start, clients, client_at, is_closed, unknown_client}
+use Rattle.fleet_history.specs.History.{History, start, robots, clients, client_at, is_closed, unknown_client}
 use Rattle.fleet_history.specs.Laws.{EachTick, orders, order_by}
 use Rattle.fleet_history.specs.Legal.{IsInOrder, IsLegal, opened, grown}
 use Rattle.fleet_history.specs.Next.{next_opening}
@@ -15,12 +15,17 @@ use Rattle.fleet_history.specs.Notices.{notices, told}
 use Rattle.fleet_history.specs.Rings.{KeepsRing}
 use Rattle.fleet_history.proofs.Told.{orders-after, notices-after}
 use Rattle.fleet_history.proofs.Legal.{legal-opening}
-use Rattle.fleet_history.proofs.Next.{next-clients, start-closed}
+use Rattle.fleet_history.proofs.Next.{next-clients, next-robots, start-closed}
 use Rattle.fleet_history.proofs.Rings.{ring-after, ring-begins, ring-next}
 use Rattle.fleet_planner.specs.Planned.{IsAdvancingTick}
 use Rattle.fleet_bound.specs.Bound.{KeepsBound}
 use Rattle.fleet_bound.specs.Roomy.{AdvancesIfRoomy, AreRoomy}
 use Rattle.fleet_bound.proofs.BoundLaws.{bound-legal, bound-next}
+use Rattle.turns_law.specs.Turns.{Turns}
+use Rattle.turns_history.specs.Fleets.{TurnLimits, AreTurnsFor}
+use Rattle.turns_history.specs.Kept.{AreServedBelow, KeepsTurnsAfter}
+use Rattle.turns_history.proofs.Keeping.{next-keeps}
+use Rattle.fleet_core.specs.Core.{ServesInTurns}
 use Rattle.fleet_reopen.specs.Chapters.{AreChapters, first, next, all_orders, all_notices}
 
 -- a chapter goes on with the lists of those before it
@@ -43,6 +48,10 @@ module _ {A : Type 0} (m : Floor) (P : History A → Type 0) (o : Opening A) whe
   pub chain-clients : (before : List (History A)) (h : History A) → AreChapters m P o before h → clients h ≡ length o.clients
   chain-clients before h (first legal has same) = ap (λ (p : Opening A). length p.clients) same
   chain-clients all g (next {before} {h} chain legal has same more) = ap (λ (p : Opening A). length p.clients) same ∙ next-clients h ∙ chain-clients before h chain
+
+  pub chain-robots : (before : List (History A)) (h : History A) → AreChapters m P o before h → robots h ≡ length o.robots
+  chain-robots before h (first legal has same) = ap (λ (p : Opening A). length p.robots) same
+  chain-robots all g (next {before} {h} chain legal has same more) = ap (λ (p : Opening A). length p.robots) same ∙ next-robots h ∙ chain-robots before h chain
 
   -- each notice once and numbered, from the first chapter to the last
   pub chain-rings : (before : List (History A)) (h : History A) (c : ℕ) → c < length o.clients → client_at (start o) c ≡ unknown_client → AreChapters m P o before h →
@@ -74,3 +83,14 @@ chain-weaker m P Q o all g so (next {before} {h} chain legal has same more) = ne
 -- so it is where worlds promise that each tick advances, since all errands go to roomy cells
 pub chain-roomy : {A : Type 0} (m : Floor) (o : Opening A) (before : List (History A)) (h : History A) → AreChapters m (λ (k : History A). AreRoomy m k × AdvancesIfRoomy m k) o before h → KeepsBound m (start o) → KeepsBound m h
 chain-roomy {A = A} m o before h chain = chain-bound m o before h (chain-weaker m (λ (k : History A). AreRoomy m k × AdvancesIfRoomy m k) (EachTick (IsAdvancingTick m)) o before h (λ k has. has.1 has.0) chain)
+
+-- in turns the bound on waits for served errands is kept
+module _ {A : Type 0} (m : Floor) (t : Turns) (l : TurnLimits) (o : Opening A) (are : AreTurnsFor m t l (robots (start o))) (begins : KeepsTurnsAfter m t l (start o)) where
+  pub chain-serves : (before : List (History A)) (h : History A) → AreChapters m (ServesInTurns (Some t) m) o before h → KeepsTurnsAfter m t l h × AreServedBelow t (robots h * l.turn) h
+  chain-serves before h (first legal serves same) =
+      serves t l refl (subst (λ (p : Opening A). AreTurnsFor m t l (robots (start p))) (sym same) are) (subst (λ (p : Opening A). KeepsTurnsAfter m t l (start p)) (sym same) begins)
+  chain-serves all g (next {before} {h} chain legal serves same more) =
+      let many : robots g ≡ length o.robots = chain-robots m (ServesInTurns (Some t) m) o all g (next chain legal serves same more) in
+      let was = chain-serves before h chain in
+      let on = next-keeps m t l h (chain-legal m (ServesInTurns (Some t) m) o before h chain) was.0 in
+      serves t l refl (subst (λ (n : ℕ). AreTurnsFor m t l n) (sym many) are) (subst (λ (p : Opening A). KeepsTurnsAfter m t l (start p)) (sym same) on)

@@ -1,5 +1,5 @@
 -- What the history of a concluded office says of the clients that ran their lines.
-use Rattle.std.proofs.Common.{◌≡◌, ◌∙◌, ℕ, ◌<◌, List, ◌++◌, length, Some, Result, Ok, Err, refl, sym, subst, arith}
+use Rattle.std.proofs.Common.{◌≡◌, ◌∙◌, ℕ, ◌<◌, List, ◌++◌, length, Some, None, Result, Ok, Err, refl, sym, subst, arith}
 use Rattle.std.specs.Prelude.{Vec, slice_get, IfOk}
 use Rattle.std.specs.declared.alloc.Global.{Global}
 use Rattle.fleet_grid.specs.Floor.{Floor}
@@ -9,7 +9,7 @@ use Rattle.fleet_history.specs.History.{History, clock}
 use Rattle.fleet_history.specs.Legal.{IsLegal}
 use Rattle.fleet_history.specs.Laws.{orders, EachTick}
 use Rattle.fleet_history.specs.Notices.{notices}
-use Rattle.fleet_planner.specs.Planned.{IsPlanned}
+use Rattle.mover.specs.Moving.{IsPlannedAs}
 use Rattle.fleet_bound.specs.Bound.{WaitsAreBounded}
 use Rattle.fleet_bound.specs.Roomy.{AdvancesIfRoomy, HasBound}
 use Rattle.fleet_core.specs.Core.{World}
@@ -79,8 +79,8 @@ module _ {A : Type 0} (began : World A) (h : History A) (number count : ℕ) (cs
 -- a serve that came to its end
 pub is-end : (began : World Global) (m : Floor) (h : History Global) (number ticks : ℕ) (rings : List (LaneName Global)) (cs : List (ClientView Global)) (rests : List (Vec Notice Global)) → number ≡ 0 → IsChapterSince began m number h → AreTold began number h cs rests → HasAll (length rings) cs
     → AreOn rings (cores cs) → AreDistinct (cores cs)
-    → (events : List Event) (most full : ℕ) → AllHaveRun events most cs full → IsLegal m h → EachTick (IsPlanned m began.ties) h → AdvancesIfRoomy m h
-    → (HasBound m h → WaitsAreBounded m h) → ticks ≡ clock h
+    → (events : List Event) (most full : ℕ) → AllHaveRun events most cs full → IsLegal m h → EachTick (IsPlannedAs began.turns m began.ties) h → (began.turns ≡ None → AdvancesIfRoomy m h)
+    → (began.turns ≡ None → HasBound m h → WaitsAreBounded m h) → ticks ≡ clock h
     → IsEnd began events most (length rings) full m h number ticks rests
 is-end began m h number ticks rings cs rests first since told all on distinct events most full ran legal planned advancing bounded tick =
     let own : number ≡ began.number = omega (arith, first, since.later) in

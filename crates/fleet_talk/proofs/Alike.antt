@@ -13,10 +13,11 @@ use Rattle.fleet_world.specs.declared.reply.Reply.{Reply}
 use Rattle.fleet_world.specs.Run.{State, Run, opened_state}
 use Rattle.fleet_text.specs.Kit.{KitLaws, chosen_laws}
 use Rattle.fleet_text.specs.Output.{is_limit_met, run_text}
+use Rattle.turns_law.specs.Turns.{Turns}
 use Rattle.fleet_talk.specs.Act.{Act, play}
 use Rattle.fleet_talk.specs.Acts.{Talks}
 use Rattle.fleet_talk.specs.Chapters.{ChapterView}
-use Rattle.fleet_talk.specs.Conversation.{IsConversation, Refuses, unopened, talked, MayOpen, NamesLimits, plain_terms, head_in, opened as opened_fleet, acts_of, clients_in, limits_in, laws_in}
+use Rattle.fleet_talk.specs.Conversation.{IsConversation, Refuses, Takes, unopened, talked, MayOpen, NamesLimits, plain_terms, head_in, opened as opened_fleet, acts_of, clients_in, limits_in, laws_in}
 use Rattle.fleet_talk.specs.Fleet.{Fleet}
 use Rattle.fleet_talk.specs.Heard.{AreShort, Head, Opening, all_of, heard_lines}
 use Rattle.fleet_talk.proofs.Runs.{said-run}
@@ -49,12 +50,12 @@ laws-same : (kit : KitLaws) (d : Draft) (plan : Plan) (starts : List ℕ) → st
 laws-same kit d plan starts same south = rw (same, south) refl
 
 talked_run : (kit : KitLaws) (m : Floor) (plan : Plan) (text : List ℕ) (o : Opening) (last : Fleet Global) → o.starts ≡ plan.starts → IsOf o.head plan → NamesLimits o.head → MayOpen (plain_terms kit m) o → (cells : List Bool)
-    → acts_of (plain_terms kit m) cells o ≡ map (play None) plan.events → Talks None (opened_fleet (plain_terms kit m) o) (acts_of (plain_terms kit m) cells o) text last
+    → acts_of (plain_terms kit m) cells o ≡ map (play None) plan.events → Talks None (opened_fleet (plain_terms kit m) o None) (acts_of (plain_terms kit m) cells o) text last
     → IsRunOf m plan text last.met plan.starts plan.clients plan.limits (chosen_laws kit plan)
 talked_run kit m plan text o last starts of named may cells acts talks =
     let d = o.head in
     let laws = laws_in kit d o.starts in
-    let all = subst (λ (l : List Act). Talks None (opened_fleet {A = Global} (plain_terms kit m) o) l text last) acts talks in
+    let all = subst (λ (l : List Act). Talks None (opened_fleet {A = Global} (plain_terms kit m) o None) l text last) acts talks in
     let (replies, end, run, same, met, is) = said-run m o.starts (clients_in d) (limits_in d) laws plan.events text last may.0 may.1 all in
     in-terms (IsRunOf m plan text last.met) o.starts plan.starts (clients_in d) plan.clients (limits_in d) plan.limits laws (chosen_laws kit plan)
     starts (sym of.clients) (limits-same d named ∙ sym of.limits) (laws-same kit d plan o.starts starts of.south) (replies, end, run, met, is)
@@ -79,7 +80,7 @@ script-run kit m bytes text chapters met plan read short named conv = by conv
     begins cells free (opened o is starts of acts) at said unmet = absurd (at_none o (head_in (plain_terms kit m) bytes).opening at (ap (λ (h : Head). h.opening) is))
 
     talks_on : (o2 : Opening) → (head_in (plain_terms kit m) bytes).opening ≡ Some o2 → MayOpen (plain_terms kit m) o2 → (cells : List Bool) (free : (c : ℕ) → has cells c ≡ false) → (answers : List ℕ) (last : Fleet Global)
-        → Talks None (opened_fleet (plain_terms kit m) o2) (acts_of (plain_terms kit m) cells o2) answers last → text ≡ all_of (head_in (plain_terms kit m) bytes).said ++ answers → met ≡ last.met
+        → Talks None (opened_fleet (plain_terms kit m) o2 None) (acts_of (plain_terms kit m) cells o2) answers last → text ≡ all_of (head_in (plain_terms kit m) bytes).said ++ answers → met ≡ last.met
         → Heads None cells free blank_draft 1 (heard_lines bytes) plan → IsRunOf m plan text met plan.starts plan.clients plan.limits (chosen_laws kit plan)
     talks_on o2 at may cells free answers last talks said limited (silent is none) = absurd (at_none o2 (head_in (plain_terms kit m) bytes).opening (ap (λ (h : Head). h.opening) is) at)
     talks_on o2 at may cells free answers last talks said limited (opened o is starts of acts) =
@@ -87,11 +88,17 @@ script-run kit m bytes text chapters met plan read short named conv = by conv
         let names = subst (λ (k : Option Opening). IfSome k (λ o. NamesLimits o.head)) (ap (λ (h : Head). h.opening) is) named in
         let told : text ≡ answers = said ∙ ap (λ (h : Head). all_of h.said ++ answers) is in
         let may2 = subst (λ (x : Opening). MayOpen (plain_terms kit m) x) same may in
-        let talks2 = subst (λ (x : Opening). Talks None (opened_fleet {A = Global} (plain_terms kit m) x) (acts_of (plain_terms kit m) cells x) answers last) same talks in
+        let talks2 = subst (λ (x : Opening). Talks None (opened_fleet {A = Global} (plain_terms kit m) x None) (acts_of (plain_terms kit m) cells x) answers last) same talks in
         subst (λ (b : Bool). IsRunOf m plan text b plan.starts plan.clients plan.limits (chosen_laws kit plan)) (sym limited)
         (subst (λ (t : List ℕ). IsRunOf m plan t last.met plan.starts plan.clients plan.limits (chosen_laws kit plan)) (sym told) (talked_run kit m plan answers o last starts of names may2 cells acts talks2))
 
+    -- the robots take no turns
+    plainly : (o : Opening) (turns : Option Turns) (cells : List Bool) (answers : List ℕ) (last : Fleet Global) → Takes (plain_terms kit m) o turns → Talks None (opened_fleet (plain_terms kit m) o turns) (acts_of (plain_terms kit m) cells o) answers last
+        → Talks None (opened_fleet (plain_terms kit m) o None) (acts_of (plain_terms kit m) cells o) answers last
+    plainly o turns cells answers last takes talks =
+        subst (λ (t : Option Turns). Talks None (opened_fleet {A = Global} (plain_terms kit m) o t) (acts_of (plain_terms kit m) cells o) answers last) takes.chosen talks
+
     by : IsConversation (plain_terms kit m) bytes text chapters met → IsRunOf m plan text met plan.starts plan.clients plan.limits (chosen_laws kit plan)
     by (unopened at said kept unmet) = begins [] (λ c. refl) (heard_script None [] (λ c. refl) bytes plan short read) at said unmet
-    by (talked o at may cells refuses answers last talks said kept limited) =
-        talks_on o at may cells (none_refused o cells refuses) answers last talks said limited (heard_script None cells (none_refused o cells refuses) bytes plan short read)
+    by (talked o at may turns takes cells refuses answers last talks said kept limited) =
+        talks_on o at may cells (none_refused o cells refuses) answers last (plainly o turns cells answers last takes talks) said limited (heard_script None cells (none_refused o cells refuses) bytes plan short read)

@@ -92,6 +92,7 @@ module _ (on : Terms) (c : ChapterView Global) (w : World Global) (n : ℕ) (fou
   door-fault (resume_fault.Chapter reopen_fault.Waits) h = absurd h
   door-fault resume_fault.Robots h = absurd h
   door-fault resume_fault.Clients h = absurd h
+  door-fault resume_fault.NoRooms h = absurd h
   door-fault (resume_fault.Talk why) h = absurd h
 
 -- without the word no errand is refused, so each other fault is one with it
@@ -106,6 +107,7 @@ without-word roomy kit m d c (resume_fault.Chapter reopen_fault.Differs) h = h
 without-word roomy kit m d c (resume_fault.Chapter reopen_fault.Spent) h = h
 without-word roomy kit m d c (resume_fault.Chapter reopen_fault.Waits) h = h
 without-word roomy kit m d c (resume_fault.Errand x) h = let bad : false ≡ true = h.0 in absurd cc
+without-word roomy kit m d c resume_fault.NoRooms h = absurd h
 without-word roomy kit m d c (resume_fault.Talk why) h = absurd h
 
 -- ---- errands in queues

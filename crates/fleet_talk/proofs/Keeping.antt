@@ -12,7 +12,8 @@ use Rattle.fleet_bound.specs.Roomy.{AdvancesIfRoomy}
 use Rattle.fleet_core.specs.declared.faults.TakeFault.TheVariants as take_fault
 use Rattle.fleet_core.specs.declared.faults.TickFault.TheVariants as tick_fault
 use Rattle.fleet_core.specs.declared.faults.ShutFault.TheVariants as shut_fault
-use Rattle.fleet_core.specs.Core.{World}
+use Rattle.turns_law.specs.Turns.{Turns}
+use Rattle.fleet_core.specs.Core.{World, ServesInTurns}
 use Rattle.fleet_world.specs.declared.reply.Reply.{Reply}
 use Rattle.fleet_world.specs.declared.reply.Reply.TheVariants.{Posted, LaneFull, Took, LaneEmpty, TakeRefused, Ticked, TickRefused, Gave, NothingPending, OutletFull, Collected, NothingThere, ShutDone, ShutRefused, NoClient}
 use Rattle.fleet_world.specs.Talk.{Talk, TalkStep, next_talk}
@@ -33,8 +34,8 @@ adds-then (Some x) (Some y) (Some z) xs ys p q = q ∙ (ap (λ l. l ++ ys) p ∙
 -- ---- chapters one after another
 
 module _ {A : Type 0} where
-  pub sound-is : (m : Floor) (h g : History A) → g ≡ h → IsLegal m h → AdvancesIfRoomy m h → IsSound m g
-  sound-is m h g same legal advancing = subst (IsSound m) (sym same) (record { legal = legal; advancing = advancing })
+  pub sound-is : (turns : Option Turns) (m : Floor) (h g : History A) → g ≡ h → IsLegal m h → (turns ≡ None → AdvancesIfRoomy m h) → ServesInTurns turns m h → IsSound turns m g
+  sound-is turns m h g same legal advancing served = subst (IsSound turns m) (sym same) (record { legal = legal; advancing = advancing; served = served })
 
   turned-floor : (b e : Beginning A) (cs : List (ChapterView A)) → AreTurned b cs e → e.floor ≡ b.floor
   turned-floor b e [] same = ap (λ (x : Beginning A). x.floor) same
@@ -55,7 +56,7 @@ module _ {A : Type 0} where
   keeps-then a b c s m t (xs, first, p) (ys, rest, q) = (xs ++ ys, turned-then (beginning s.world) (beginning m.world) (beginning t.world) xs ys first rest, adds-then a b c xs ys p q)
 
   -- the chapter was handed out and kept
-  pub keeps-one : (a b : Option (List (ChapterView A))) (s t : Talk A) (n : ℕ) (h : History A) → n ≡ s.world.number → h ≡ s.world.history → IsSound s.world.floor s.world.history → t ≡ next_talk s
+  pub keeps-one : (a b : Option (List (ChapterView A))) (s t : Talk A) (n : ℕ) (h : History A) → n ≡ s.world.number → h ≡ s.world.history → IsSound s.world.turns s.world.floor s.world.history → t ≡ next_talk s
       → Adds a b (record { number = n; history = h } ∷ []) → KeepsTurned a b s t
   keeps-one a b s t n h number history sound next added = (
     chapter_in s.world ∷ [],
@@ -72,10 +73,10 @@ module _ {A : Type 0} where
 
   -- the last chapter was kept
   pub keeps-last : {X E : Type 0} (r : Result X E) (a b : Option (List (ChapterView A))) (t : Talk A) (n : ℕ) (h : History A) → n ≡ t.world.number → h ≡ t.world.history
-      → IsLegal t.world.floor t.world.history → AdvancesIfRoomy t.world.floor t.world.history
+      → IsLegal t.world.floor t.world.history → (t.world.turns ≡ None → AdvancesIfRoomy t.world.floor t.world.history) → ServesInTurns t.world.turns t.world.floor t.world.history
       → OnOk r (Adds a b (record { number = n; history = h } ∷ [])) → OnOk r (KeepsLast a b t)
-  keeps-last r a b t n h number history legal advancing = on_ok_weaker r (λ added. (
-    record { legal = legal; advancing = advancing },
+  keeps-last r a b t n h number history legal advancing served = on_ok_weaker r (λ added. (
+    record { legal = legal; advancing = advancing; served = served },
     subst (λ (c : ChapterView A). Adds a b (c ∷ [])) (rw (number, history) refl) added,
   ))
 

@@ -12,6 +12,7 @@ pub mod Onward
 mod Doors
 pub mod Finishing
 pub mod Resumptions
+pub mod Manners
 pub mod Starting
 pub mod Runs
 pub mod Alike

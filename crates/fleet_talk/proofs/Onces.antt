@@ -6,6 +6,7 @@ use Rattle.fleet_history.specs.declared.history.Chapter.{Chapter}
 use Rattle.fleet_history.specs.History.{history_of}
 use Rattle.fleet_history.specs.Legal.{IsLegal}
 use Rattle.fleet_bound.specs.Roomy.{AdvancesIfRoomy}
+use Rattle.fleet_core.specs.Core.{ServesInTurns}
 use Rattle.fleet_book.specs.declared.event.Event.{Event}
 use Rattle.fleet_world.specs.declared.reply.Reply.{Reply}
 use Rattle.fleet_world.specs.Talk.{Talk, TalkStep, next_talk}
@@ -69,10 +70,10 @@ kept-added old new kept = record { out = kept.out ∙ sym (append-nil old.out.it
 
 -- the chapter that was handed out is the one that the world was in
 pub hands-over : (s t : Talk Global) (chapter : Chapter Global) → chapter.number ≡ s.world.number → history_of chapter ≡ s.world.history → IsLegal s.world.floor s.world.history
-    → AdvancesIfRoomy s.world.floor s.world.history → t ≡ next_talk s → Hands s (Some chapter) t
-hands-over s t chapter number history legal advancing next = (
+    → (s.world.turns ≡ None → AdvancesIfRoomy s.world.floor s.world.history) → ServesInTurns s.world.turns s.world.floor s.world.history → t ≡ next_talk s → Hands s (Some chapter) t
+hands-over s t chapter number history legal advancing served next = (
   rw (number, history) refl,
-  record { legal = legal; advancing = advancing },
+  record { legal = legal; advancing = advancing; served = served },
   next,
 )
 

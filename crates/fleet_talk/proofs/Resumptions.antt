@@ -18,11 +18,12 @@ use Rattle.fleet_reopen.specs.declared.fault.ReopenFault.TheVariants as reopen_f
 use Rattle.fleet_reopen.specs.Reopening.{CanReopen, IsReopenFault}
 use Rattle.fleet_script.specs.Script.{Draft}
 use Rattle.fleet_world.specs.Talk.{Talk}
+use Rattle.turns_law.specs.Turns.{Turns}
 use Rattle.fleet_talk.specs.declared.ends.Settings.{Settings}
 use Rattle.fleet_talk.specs.declared.fault.TalkFault.{TalkFault}
-use Rattle.fleet_talk.specs.declared.fault.TalkFault.TheVariants.{Input, Output, Sink, Opening as Unopened, NoMemory}
+use Rattle.fleet_talk.specs.declared.fault.TalkFault.TheVariants.{Input, Output, Sink, Opening as Unopened, NoRooms, NoMemory}
 use Rattle.fleet_talk.specs.declared.resuming.ResumeFault.{ResumeFault}
-use Rattle.fleet_talk.specs.declared.resuming.ResumeFault.TheVariants.{Robots, Clients, Chapter, Talk as Broke}
+use Rattle.fleet_talk.specs.declared.resuming.ResumeFault.TheVariants.{Robots, Clients, Chapter, Errand, NoRooms as Roomless, Talk as Broke}
 use Rattle.fleet_talk.specs.Act.{acts_from}
 use Rattle.fleet_talk.specs.Acts.{Talks}
 use Rattle.fleet_talk.specs.Broken.{IsMidway}
@@ -31,7 +32,7 @@ use Rattle.fleet_talk.specs.Conversation.{KeptChapters, Terms}
 use Rattle.fleet_talk.specs.Ending.{Keeps, Finishes, written, unwritten}
 use Rattle.fleet_talk.specs.Fleet.{Fleet, opened_fleet}
 use Rattle.fleet_talk.specs.Heard.{IsNext, heard_lines}
-use Rattle.fleet_talk.specs.Resumed.{ComesOpen, IsAnswered, IsAnsweredInPart, IsResumeFault, IsResumption, IsResumptionBegun, LetsIn, MayResume, disagreement, is_other, laws_after, limits_after, resumed}
+use Rattle.fleet_talk.specs.Resumed.{ComesOpen, IsAnswered, IsAnsweredInPart, IsRefusal, IsResumeFault, IsResumption, IsResumptionBegun, IsRoomless, IsUnresumed, LetsIn, MayResume, TakesOn, resumed_in, disagreement, is_other, laws_after, limits_after}
 use Rattle.fleet_talk.specs.Talked.{TalksUntil}
 use Rattle.fleet_talk.proofs.Breaking.{until-none}
 use Rattle.fleet_talk.proofs.Finishing.{written_all, written_part, written_none, take_none, err, same_err, whole_prefix}
@@ -181,6 +182,7 @@ module _ (settings : Settings) (cells : List Bool) (s : Fleet Global) (k : KeptC
   broken_at (Some bytes) a b c p NoMemory mid (text, is, says) all = (text, is, written_all a b c p text says all)
   broken_at (Some bytes) a b c p Output mid h all = absurd mid
   broken_at (Some bytes) a b c p (Unopened f) mid h all = absurd mid
+  broken_at (Some bytes) a b c p NoRooms mid h all = absurd mid
 
   pub open-broken : (known a b c : Option (List ℕ)) (p : List ℕ) (ended result : Result Bool TalkFault) → Come settings cells s known a b p k ended → Finishes ended b c p result
       → IfErr result (λ f. IsMidway f → IfSome known (Broken settings cells s a c))
@@ -197,6 +199,7 @@ module _ (settings : Settings) (cells : List Bool) (s : Fleet Global) (k : KeptC
   cut_short (Some bytes) a b c p (Err Output) (text, is, (prefix, none)) (n, within, taken) =
       (text, is, written_none a b c text prefix (subst (λ (l : List ℕ). Appends b c l) (ap (take n) none ∙ take_none n) taken))
   cut_short (Some bytes) a b c p (Err (Unopened f)) (text, is, says) part = absurd says
+  cut_short (Some bytes) a b c p (Err NoRooms) (text, is, says) part = absurd says
 
   pub open-unwritten : (known a b c : Option (List ℕ)) (p : List ℕ) (ended result : Result Bool TalkFault) → Come settings cells s known a b p k ended → Finishes ended b c p result
       → result ≡ Err Output → IfSome known (CutShort settings cells s a c)
@@ -205,7 +208,19 @@ module _ (settings : Settings) (cells : List Bool) (s : Fleet Global) (k : KeptC
 
 -- ---- a fleet that goes on
 
-module _ (on : Terms) (c : ChapterView Global) (s : Talk Global) (same : s ≡ resumed on.kit on.floor on.head c) (may : MayResume on.kit on.floor on.head c) (cells : List Bool) (lets : LetsIn on c cells) where
+abbrev failed : ResumeFault → Result Bool ResumeFault
+failed f = Err f
+
+-- what refused a chapter is a reason why no conversation goes on from it
+pub unresumed : (on : Terms) (c : ChapterView Global) (f : ResumeFault) → IsResumeFault on.settings.roomy on.kit on.floor on.head c f → IsUnresumed on c f
+unresumed on c Robots is = is
+unresumed on c Clients is = is
+unresumed on c (Chapter why) is = is
+unresumed on c (Errand x) is = is
+unresumed on c Roomless is = absurd is
+unresumed on c (Broke why) is = absurd is
+
+module _ (on : Terms) (c : ChapterView Global) (turns : Option Turns) (takes : TakesOn on c turns) (s : Talk Global) (same : s ≡ resumed_in on c turns) (may : MayResume on.kit on.floor on.head c) (cells : List Bool) (lets : LetsIn on c cells) where
   pub resumption-whole : (known a b : Option (List ℕ)) (k : KeptChapters) (before : Option (List (ChapterView Global))) (met : Bool) → before ≡ k.old
       → IfSome known (Whole on.settings cells (opened_fleet s) (record { old = before; new = k.new }) a b met)
       → IfSome known (λ bytes. (text : List ℕ) × (chapters : List (ChapterView Global)) × IsResumption on c bytes text chapters met × Appends a b text × Adds k.old k.new chapters)
@@ -213,18 +228,31 @@ module _ (on : Terms) (c : ChapterView Global) (s : Talk Global) (same : s ≡ r
   resumption-whole (Some bytes) a b k before met eq (text, chapters, is, taken, kept) = (
     text,
     chapters,
-    record { may = may; cells = cells; lets_in = lets; answered = subst (λ (x : Talk Global). IsAnswered on.settings cells (opened_fleet x) bytes text chapters met) same is },
+    record { may = may; turns = turns; takes = takes; cells = cells; lets_in = lets; answered = subst (λ (x : Talk Global). IsAnswered on.settings cells (opened_fleet x) bytes text chapters met) same is },
     taken,
     subst (λ (o : Option (List (ChapterView Global))). Adds o k.new chapters) eq kept,
   )
 
   pub resumption-broken : (known a b : Option (List ℕ)) → IfSome known (Broken on.settings cells (opened_fleet s) a b) → IfSome known (λ bytes. (text : List ℕ) × IsResumptionBegun on c bytes text × Appends a b text)
   resumption-broken None a b h = tt
-  resumption-broken (Some bytes) a b (text, is, taken) = (text, record { may = may; cells = cells; lets_in = lets; answered = subst (λ (x : Talk Global). IsAnsweredInPart on.settings cells (opened_fleet x) bytes text) same is }, taken)
+  resumption-broken (Some bytes) a b (text, is, taken) = (text, record { may = may; turns = turns; takes = takes; cells = cells; lets_in = lets; answered = subst (λ (x : Talk Global). IsAnsweredInPart on.settings cells (opened_fleet x) bytes text) same is }, taken)
 
   pub resumption-cut : (known a b : Option (List ℕ)) → IfSome known (CutShort on.settings cells (opened_fleet s) a b) → IfSome known (λ bytes. (text : List ℕ) × IsResumptionBegun on c bytes text × AppendsPrefix a b text)
   resumption-cut None a b h = tt
-  resumption-cut (Some bytes) a b (text, is, taken) = (text, record { may = may; cells = cells; lets_in = lets; answered = subst (λ (x : Talk Global). IsAnsweredInPart on.settings cells (opened_fleet x) bytes text) same is }, taken)
+  resumption-cut (Some bytes) a b (text, is, taken) = (text, record { may = may; turns = turns; takes = takes; cells = cells; lets_in = lets; answered = subst (λ (x : Talk Global). IsAnsweredInPart on.settings cells (opened_fleet x) bytes text) same is }, taken)
+
+-- a chapter that is refused, if the rooms of the map passed their checks
+pub refusal-is : (on : Terms) (c : ChapterView Global) (f : ResumeFault) → IsUnresumed on c f → IsRefusal f → IsResumeFault on.settings.roomy on.kit on.floor on.head c f
+refusal-is on c Robots is refusal = is
+refusal-is on c Clients is refusal = is
+refusal-is on c (Chapter why) is refusal = is
+refusal-is on c (Errand x) is refusal = is
+refusal-is on c Roomless is refusal = absurd refusal
+refusal-is on c (Broke why) is refusal = absurd refusal
+
+-- it is not, if they did not
+pub roomless-is : (on : Terms) (c : ChapterView Global) (f : ResumeFault) → IsUnresumed on c f → failed f ≡ failed Roomless → IsRoomless on c
+roomless-is on c f is same = let at : f ≡ Roomless = cc in subst (IsUnresumed on c) at is
 
 abbrev broke : TalkFault → Result Bool ResumeFault
 broke f = Err (Broke f)

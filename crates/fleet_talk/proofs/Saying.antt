@@ -7,7 +7,7 @@ use Rattle.std.proofs.KnownBytes.{Appends-nil, Appends-trans}
 use Rattle.std.proofs.Math.Seq.{take-append-add}
 use Rattle.fleet_text.specs.Transfer.{AppendsPrefix}
 use Rattle.fleet_talk.specs.declared.fault.TalkFault.{TalkFault}
-use Rattle.fleet_talk.specs.declared.fault.TalkFault.TheVariants.{Input, Output, Sink, Opening, NoMemory}
+use Rattle.fleet_talk.specs.declared.fault.TalkFault.TheVariants.{Input, Output, Sink, Opening, NoRooms, NoMemory}
 use Rattle.fleet_talk.specs.Broken.{IsMidway, SaysUntil}
 use Rattle.fleet_talk.specs.Says.{Says}
 
@@ -43,6 +43,7 @@ midway Sink a b o p text is says = says
 midway NoMemory a b o p text is says = says
 midway Output a b o p text is says = absurd is
 midway (Opening why) a b o p text is says = absurd is
+midway NoRooms a b o p text is says = absurd is
 
 -- a whole text, and then a prefix of another
 pub prefix-after : (a b c : Option (List ℕ)) (first text : List ℕ) → Appends a b first → AppendsPrefix b c text → AppendsPrefix a c (first ++ text)
@@ -59,6 +60,7 @@ until-then Output a b c o p q first rest x (prefix, none) =
     let all : x.written ++ (p ++ rest) ≡ o ++ (first ++ rest) = sym (append_assoc x.written p rest) ∙ (ap (λ l. l ++ rest) x.same ∙ append_assoc o first rest) in
     (subst (λ (l : List ℕ). AppendsPrefix a c l) all (prefix-after a b c x.written (p ++ rest) x.taken prefix), none)
 until-then (Opening why) a b c o p q first rest x y = absurd y
+until-then NoRooms a b c o p q first rest x y = absurd y
 
 -- a text that was added, and the writing of it up to a fault
 pub until-written : (fault : TalkFault) (a b : Option (List ℕ)) (o p q text : List ℕ) → p ≡ o ++ text → SaysUntil fault a b p q [] → SaysUntil fault a b o q text
@@ -67,3 +69,4 @@ until-written Sink a b o p q text is w = says-written a b o p q text is w
 until-written NoMemory a b o p q text is w = says-written a b o p q text is w
 until-written Output a b o p q text is (prefix, none) = (subst (λ (l : List ℕ). AppendsPrefix a b l) (append-nil p ∙ is) prefix, none)
 until-written (Opening why) a b o p q text is w = absurd w
+until-written NoRooms a b o p q text is w = absurd w

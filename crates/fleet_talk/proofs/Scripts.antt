@@ -20,6 +20,7 @@ use Rattle.fleet_script.proofs.Forms.{event_is, other_is}
 use Rattle.fleet_talk.specs.declared.ask.Asked.{Asked}
 use Rattle.fleet_talk.specs.declared.ask.Asked.TheVariants.{Nothing, Events, Chapter as TheChapter, Look, Open, Quit, Other, Long, NoRoom}
 use Rattle.fleet_talk.specs.declared.ends.Settings.{Settings}
+use Rattle.mover.specs.declared.manner.Manner.TheVariants as manner
 use Rattle.fleet_talk.specs.Ask.{Line, line_in, asked_in, word_asked, is_marked}
 use Rattle.fleet_talk.specs.Act.{Act, play, is_quit, acts_asked, acts_on, acts_from}
 use Rattle.fleet_talk.specs.Door.{event_let_in, let_in, line_let_in, order_let_in}
@@ -196,7 +197,7 @@ line_is d n raw m asked short line is = plain_line n raw short (unmarked d n (st
 
 -- without marks
 abbrev pub unmarked_settings : Option ℕ → Settings
-unmarked_settings roll = record { marks = false; roll = roll; roomy = false }
+unmarked_settings roll = record { marks = false; roll = roll; roomy = false; manner = manner.Plain }
 
 -- of a line that is short all is heard
 whole_lines : (most : ℕ) (raws : List (List ℕ)) → AllByRecursion (λ raw. length raw ≤ most) raws → map (take most) raws ≡ raws

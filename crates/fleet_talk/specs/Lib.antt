@@ -13,6 +13,7 @@ pub mod Long
 pub mod Look
 pub mod Listed
 pub mod Fleet
+pub mod Manners
 pub mod Once
 pub mod Open
 pub mod Acts

@@ -15,7 +15,7 @@ use Rattle.fleet_talk.specs.Says.{marked}
 -- this chapter was handed out, or it was the last
 abbrev pub Hands : Talk Global → Option (Chapter Global) → Talk Global → Type 0
 Hands s None t = (s.world.number + 1 ≡ s.world.limits.chapters) × (t ≡ s)
-Hands s (Some chapter) t = (chapter_shown chapter ≡ chapter_in s.world) × IsSound s.world.floor s.world.history × (t ≡ next_talk s)
+Hands s (Some chapter) t = (chapter_shown chapter ≡ chapter_in s.world) × IsSound s.world.turns s.world.floor s.world.history × (t ≡ next_talk s)
 
 -- a chapter is handed out for this act: it asks for that, or that is due before its event
 abbrev pub Wants : {A : Type 0} → Option ℕ → Fleet A → Act → Type 0

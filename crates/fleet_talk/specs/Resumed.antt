@@ -19,6 +19,8 @@ use Rattle.fleet_reopen.specs.Reopening.{CanReopen, IsReopenFault, reopened_worl
 use Rattle.fleet_script.specs.Script.{Draft, limits_over}
 use Rattle.fleet_text.specs.Kit.{KitLaws, cut_laws}
 use Rattle.fleet_world.specs.Talk.{Talk, quiet_talk}
+use Rattle.turns_law.specs.Turns.{Turns}
+use Rattle.mover.specs.declared.manner.Manner.TheVariants as manner
 use Rattle.fleet_talk.specs.declared.ends.Settings.{Settings}
 use Rattle.fleet_talk.specs.declared.fault.TalkFault.{TalkFault}
 use Rattle.fleet_talk.specs.declared.ground.TheConstants.{TALK_LIMITS}
@@ -34,6 +36,7 @@ use Rattle.fleet_talk.specs.declared.door.Door.{Door}
 use Rattle.fleet_talk.specs.declared.door.UnroomyErrand.{UnroomyErrand}
 use Rattle.fleet_talk.specs.Fleet.{Fleet, opened_fleet}
 use Rattle.fleet_talk.specs.Heard.{heard_lines}
+use Rattle.fleet_talk.specs.Manners.{AreTaken, in_turns}
 use Rattle.fleet_talk.specs.Says.{Says}
 
 -- ---- the header lines and the chapter
@@ -110,10 +113,22 @@ IsResumeFault roomy kit m d c (fault.Chapter reopen_fault.NoMemory) = Unit {0}
 IsResumeFault roomy kit m d c (fault.Chapter why) =
     (disagreement d c.history.opening ≡ None) × IsReopenFault m c.number c.history (limits_after d c.history.opening) (laws_after kit d c.history.opening) why
 IsResumeFault roomy kit m d c (fault.Errand x) = (roomy ≡ true) × MayResume kit m d c × WaitsUnroomy (robots c.history) (world_after kit m d c) x
+IsResumeFault roomy kit m d c fault.NoRooms = ⊥
 IsResumeFault roomy kit m d c (fault.Talk why) = ⊥
 
--- the fault came before the first line was read
+-- a fleet goes on from the chapter, and its robots were to take turns, but the rooms of the map did not pass their checks
+pub record IsRoomless (on : Terms) (c : ChapterView Global) : Type 0 where
+  pub may : MayResume on.kit on.floor on.head c
+  pub asked : on.settings.manner ≡ manner.Turns
+
+-- why no conversation goes on from the chapter
+abbrev pub IsUnresumed : Terms → ChapterView Global → ResumeFault → Type 0
+IsUnresumed on c fault.NoRooms = IsRoomless on c
+IsUnresumed on c why = IsResumeFault on.settings.roomy on.kit on.floor on.head c why
+
+-- the chapter is refused: the fault came before the first line was read
 abbrev pub IsRefusal : ResumeFault → Type 0
+IsRefusal fault.NoRooms = ⊥
 IsRefusal (fault.Talk why) = ⊥
 IsRefusal _ = Unit {0}
 
@@ -145,16 +160,28 @@ pub record LetsIn (on : Terms) (c : ChapterView Global) (cells : List Bool) : Ty
   pub refuses : AreRefused on.settings.roomy on.floor (robots c.history) cells
   pub waiting : NoneWaits cells (world_after on.kit on.floor on.head c)
 
+-- the fleet that goes on from a chapter, whose robots take these turns
+abbrev pub resumed_in : Terms → ChapterView Global → Option Turns → Talk Global
+resumed_in on c turns = in_turns turns (resumed on.kit on.floor on.head c)
+
+-- they are those of the manner that is asked for: none where it is the plain one
+abbrev pub TakesOn : Terms → ChapterView Global → Option Turns → Type 0
+TakesOn on c turns = AreTaken on.settings.manner (world_after on.kit on.floor on.head c) turns
+
 -- the text and the chapters of a whole conversation whose fleet goes on from a chapter, and whether a limit was met
 pub record IsResumption (on : Terms) (c : ChapterView Global) (bytes text : List ℕ) (chapters : List (ChapterView Global)) (met : Bool) : Type 0 where
   pub may : MayResume on.kit on.floor on.head c
+  pub turns : Option Turns
+  pub takes : TakesOn on c turns
   pub cells : List Bool
   pub lets_in : LetsIn on c cells
-  pub answered : IsAnswered on.settings cells (opened_fleet (resumed on.kit on.floor on.head c)) bytes text chapters met
+  pub answered : IsAnswered on.settings cells (opened_fleet (resumed_in on c turns)) bytes text chapters met
 
 -- the beginning of one
 pub record IsResumptionBegun (on : Terms) (c : ChapterView Global) (bytes text : List ℕ) : Type 0 where
   pub may : MayResume on.kit on.floor on.head c
+  pub turns : Option Turns
+  pub takes : TakesOn on c turns
   pub cells : List Bool
   pub lets_in : LetsIn on c cells
-  pub answered : IsAnsweredInPart on.settings cells (opened_fleet (resumed on.kit on.floor on.head c)) bytes text
+  pub answered : IsAnsweredInPart on.settings cells (opened_fleet (resumed_in on c turns)) bytes text

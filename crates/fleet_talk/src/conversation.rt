@@ -1,133 +1,34 @@
 //! A conversation as a whole.
 
-ghost use Rattle.std.specs.Prelude.{◌≡◌, ◌≤◌, ◌↔◌, ◌∷◌, ℕ, List, [], length, Ok, Err, Some, OnOk, IfOk, IfErr, IfSome, vec_len};
+ghost use Rattle.std.specs.Prelude.{◌≡◌, ◌≤◌, ◌∷◌, ℕ, List, Option, [], Err, OnOk, IfOk, IfErr, IfSome, vec_len};
 ghost use Rattle.std.specs.Io.Buffered.{reader_buffer, reader_remaining};
 ghost use Rattle.std.specs.Io.KnownBytes.{Appends};
 ghost use Rattle.std.specs.declared.alloc.Global.{Global};
 ghost use Rattle.fleet_grid.specs.Floor.{Floor};
 ghost use Rattle.fleet_history.specs.History.{history_of};
-ghost use Rattle.fleet_bridge.specs.Roominess.{AreRoomyFor};
 ghost use Rattle.fleet_text.specs.Kit.{kit_laws};
 ghost use Rattle.fleet_text.specs.Transfer.{AppendsPrefix};
-ghost use Rattle.fleet_core.specs.Hooks.{AreOrderly};
-ghost use Rattle.fleet_core.specs.Opening.{CanOpen};
-ghost use Rattle.fleet_core.specs.OpeningFaults.{IsNamed, IsRefused};
+ghost use Rattle.fleet_core.specs.declared.faults.OpenFault.{OpenFault};
 ghost use Rattle.fleet_world.specs.Keeps.{talk};
-ghost use Rattle.fleet_world.specs.Talk.{opened_talk};
 ghost use Rattle.fleet_talk.specs.Broken.{IsMidway};
+ghost use Rattle.turns_law.specs.Turns.{Turns};
 ghost use Rattle.fleet_talk.specs.Chapters.{Adds, ChapterView, IsSound, KeepsLast, chapter_shown};
-ghost use Rattle.fleet_talk.specs.Conversation.{ComesTo, IsBegun, IsConversation, IsRefusedHead, Terms, clients_in, laws_in, limits_in};
-ghost use Rattle.fleet_talk.specs.Door.{AreRefused};
+ghost use Rattle.fleet_talk.specs.Conversation.{ComesTo, IsBegun, IsConversation, IsRefusedHead, IsRoomlessHead, Terms};
 ghost use Rattle.fleet_talk.specs.Due.{IsDone};
 ghost use Rattle.fleet_talk.specs.Ending.{Finishes, Keeps};
 ghost use Rattle.fleet_talk.specs.Heading.{drafted};
-ghost use Rattle.fleet_talk.specs.Refusals.{talk_fault};
 
-use crate::door::{Door, counted, door_for};
 use crate::ends::{ChapterSink, Ends, Settings};
 use crate::fault::TalkFault;
 use crate::going::{Entrance, go_on};
-use crate::ground::{Ground, TALK_LIMITS};
+use crate::ground::Ground;
 use crate::heading::hear_head;
 use crate::open_fleet::OpenFleet;
+use crate::opening::open_planned;
 use crate::pen::Pen;
-use crate::resuming::robots_named;
-use fleet_core::OpenFault;
-use fleet_grid::Grid;
 use fleet_history::Chapter;
-use fleet_script::Head;
-use fleet_text::HookKit;
-use fleet_world::Session;
-use std::alloc::{Alloc, AllocError, Global};
+use std::alloc::{Alloc, Global};
 use std::io::{Read, Write};
-
-/// Opens the fleet that the head names.
-fn open(alloc: Global, grid: Grid, kit: HookKit, head: Head) -> Result<Session, OpenFault>
-    // Of each call: only a call with a condition may hand on closures that another crate hands out.
-    requires { 0 ≤ vec_len kit.plain.ties }
-    ensures refused { (starts : List ℕ) → (drafted head).starts ≡ Some starts → (fault : OpenFault) → IsNamed fault → ((result ≡ Err fault) ↔
-        IsRefused grid starts (clients_in (drafted head)) (limits_in (drafted head)) (laws_in (kit_laws kit) (drafted head) starts) fault) }
-    ensures can { (starts : List ℕ) → (drafted head).starts ≡ Some starts → OnOk result (
-        CanOpen grid starts (clients_in (drafted head)) (limits_in (drafted head)) (laws_in (kit_laws kit) (drafted head) starts)) }
-    ensures orderly { (starts : List ℕ) → (drafted head).starts ≡ Some starts → OnOk result (AreOrderly (laws_in (kit_laws kit) (drafted head) starts)) }
-    ensures ok { (starts : List ℕ) → (drafted head).starts ≡ Some starts → IfOk result (λ s.
-        talk s ≡ opened_talk grid starts (clients_in (drafted head)) (limits_in (drafted head)) (laws_in (kit_laws kit) (drafted head) starts)) }
-    ensures floor { IfOk result (λ s. s.world.core.floor ≡ grid) }
-{
-    let Head {
-        starts,
-        clients,
-        south,
-        turns: _,
-        limits,
-    } = head;
-    let starts = starts.unwrap_or(Vec::new(alloc));
-    let hooks = kit.choose(south.unwrap_or(false)).cut(starts.len());
-    let clients = clients.unwrap_or(1);
-    Session::open(
-        alloc,
-        grid,
-        starts,
-        clients,
-        limits.limits_over(TALK_LIMITS),
-        hooks,
-    )
-}
-
-/// Opens the fleet that the head names, and its door.
-fn open_with_door(
-    alloc: Global,
-    ground: Ground,
-    settings: Settings,
-) -> Result<(Session, Door), OpenFault>
-    // Of each call: only a call with a condition may hand on closures that another crate hands out.
-    requires { 0 ≤ vec_len ground.kit.plain.ties }
-    ensures refused { (starts : List ℕ) → (drafted ground.head).starts ≡ Some starts → (fault : OpenFault) → IsNamed fault → result ≡ Err fault →
-        IsRefused ground.grid starts (clients_in (drafted ground.head)) (limits_in (drafted ground.head)) (laws_in (kit_laws ground.kit) (drafted ground.head) starts) fault }
-    ensures can { (starts : List ℕ) → (drafted ground.head).starts ≡ Some starts → OnOk result (
-        CanOpen ground.grid starts (clients_in (drafted ground.head)) (limits_in (drafted ground.head)) (laws_in (kit_laws ground.kit) (drafted ground.head) starts)) }
-    ensures orderly { (starts : List ℕ) → (drafted ground.head).starts ≡ Some starts → OnOk result (AreOrderly (laws_in (kit_laws ground.kit) (drafted ground.head) starts)) }
-    ensures ok { (starts : List ℕ) → (drafted ground.head).starts ≡ Some starts → IfOk result (λ r.
-        talk r.0 ≡ opened_talk ground.grid starts (clients_in (drafted ground.head)) (limits_in (drafted ground.head)) (laws_in (kit_laws ground.kit) (drafted ground.head) starts)) }
-    ensures door { (starts : List ℕ) → (drafted ground.head).starts ≡ Some starts → IfOk result (λ r.
-        AreRefused settings.roomy ground.grid (length starts) r.1.refused.marks.items) }
-    ensures known { IfOk result (λ r. AreRoomyFor r.0.world.core.floor r.1.roominess.items) }
-{
-    let Ground { grid, kit, head } = ground;
-    let robots = counted(robots_named(&head).unwrap_or(0));
-    let door = door_for(alloc, settings.roomy, &grid, robots);
-    match open(alloc, grid, kit, head) {
-        Ok(session) => with_door(session, door),
-        Err(fault) => Err(fault),
-    }
-}
-
-/// A fleet and its door, unless memory ran out for the door.
-fn with_door(session: Session, door: Result<Door, AllocError>) -> Result<(Session, Door), OpenFault>
-    // Of each call: only a call with a condition may hand on closures.
-    requires { 0 ≤ session.world.core.number }
-    ensures session { IfOk result (λ r. talk r.0 ≡ talk session) }
-    ensures door { IfOk result (λ r. door ≡ Ok r.1) }
-    ensures fault { IfErr result (λ fault. fault ≡ OpenFault.NoMemory) }
-{
-    match door {
-        Ok(door) => Ok((session, door)),
-        Err(AllocError) => {
-            let _left = session.finish();
-            Err(OpenFault::NoMemory)
-        }
-    }
-}
-
-/// Why a conversation breaks off when its fleet cannot be opened.
-fn opening_fault(fault: OpenFault) -> TalkFault
-    ensures { result ≡ talk_fault fault }
-{
-    match fault {
-        OpenFault::NoMemory => TalkFault::NoMemory,
-        fault => TalkFault::Opening(fault),
-    }
-}
 
 /// Keeps the last chapter, however the conversation ended. Returns whether a limit was met.
 fn keep_last<S: ChapterSink>(
@@ -136,7 +37,7 @@ fn keep_last<S: ChapterSink>(
     ended: Result<(), TalkFault>,
     limited: bool,
 ) -> Result<bool, TalkFault>
-    requires sound { (m : Floor) × IsSound m (history_of chapter.now) }
+    requires sound { (turns : Option Turns) × (m : Floor) × IsSound turns m (history_of chapter.now) }
     ensures ended { Keeps ended limited result }
     ensures kept { OnOk result (Adds (S.kept sink.old) (S.kept sink.new) (chapter_shown chapter.now ∷ [])) }
 {
@@ -196,7 +97,7 @@ fn hold<R: Alloc<A = Global>, I: Read, W: Write, S: ChapterSink>(
     let mut head = head;
     let mut bytes = Vec::new(alloc);
     match hear_head(alloc, ends, &mut head, &mut bytes, pen) {
-        Ok(Some(first)) => match open_with_door(alloc, Ground { grid, kit, head }, pen.settings) {
+        Ok(Some(first)) => match open_planned(alloc, Ground { grid, kit, head }, pen.settings) {
             Ok((session, door)) => {
                 ends.sink.opened(&door);
                 let mut fleet = OpenFleet {
@@ -207,7 +108,7 @@ fn hold<R: Alloc<A = Global>, I: Read, W: Write, S: ChapterSink>(
                 let ended = go_on(rt, &mut fleet, ends, &mut bytes, pen, entrance);
                 close(fleet, &mut ends.sink, ended)
             }
-            Err(fault) => Err(opening_fault(fault)),
+            Err(fault) => Err(fault),
         },
         Ok(None) => {
             drop(kit);
@@ -241,6 +142,11 @@ pub fn converse<R: Alloc<A = Global>, I: Read, W: Write, S: ChapterSink>(
     // The answers to the head's lines were written, and the fleet is refused for this reason.
     ensures refused { (why : OpenFault) → result ≡ Err (TalkFault.Opening why) → IfSome (reader_remaining I.remaining ends.old.input) (λ bytes. (text : List ℕ)
         × IsRefusedHead (record { kit = kit_laws ground.kit; floor = ground.grid; settings = settings; head = drafted ground.head }) bytes text why
+        × Appends (W.contents ends.old.output) (W.contents ends.new.output) text) }
+    // They were written, and the fleet may be opened, but its robots were to take turns, and the rooms of the map did not
+    // pass their checks.
+    ensures roomless { result ≡ Err TalkFault.NoRooms → IfSome (reader_remaining I.remaining ends.old.input) (λ bytes. (text : List ℕ)
+        × IsRoomlessHead (record { kit = kit_laws ground.kit; floor = ground.grid; settings = settings; head = drafted ground.head }) bytes text
         × Appends (W.contents ends.old.output) (W.contents ends.new.output) text) }
     // A line could not be read, a chapter not kept, or memory ran out: all that was said until then was written.
     ensures broken { IfErr result (λ fault. IsMidway fault → IfSome (reader_remaining I.remaining ends.old.input) (λ bytes. (text : List ℕ)

@@ -4,10 +4,12 @@ ghost use Rattle.std.specs.Prelude.{◌≡◌, [], ◌∷◌, List, Option, OnOk
 ghost use Rattle.std.specs.declared.alloc.Global.{Global};
 ghost use Rattle.fleet_grid.specs.Floor.{Floor};
 ghost use Rattle.fleet_history.specs.History.{history_of};
+ghost use Rattle.turns_law.specs.Turns.{Turns};
 ghost use Rattle.fleet_talk.specs.Chapters.{Adds, ChapterView, IsSound, chapter_shown};
 
 use crate::door::Door;
 use fleet_history::Chapter;
+use mover::Manner;
 use std::alloc::AllocError;
 use std::io::BufReader;
 
@@ -21,6 +23,8 @@ pub struct Settings {
     pub roll: Option<u64>,
     /// Whether posts to cells that are not roomy for the fleet's robots are refused.
     pub roomy: bool,
+    /// How the ticks of the fleet are planned.
+    pub manner: Manner,
 }
 
 /// Why a chapter was not kept.
@@ -47,10 +51,10 @@ pub trait ChapterSink {
     /// The chapters that it kept, in order, where that is known; of files it is not.
     ghost kept: { Self → Option (List (ChapterView Global)) };
 
-    /// Keeps a chapter, which is legal, and each tick of which advances if all its errands go to roomy cells. After a fault it
-    /// is not kept.
+    /// Keeps a chapter, which is legal, and each tick of which advances if its robots take no turns and all its errands go to
+    /// roomy cells. After a fault it is not kept.
     fn keep(&mut self, chapter: &Chapter) -> Result<(), SinkFault>
-        requires sound { (m : Floor) × IsSound m (history_of chapter.now) }
+        requires sound { (turns : Option Turns) × (m : Floor) × IsSound turns m (history_of chapter.now) }
         ensures ok { OnOk result (Adds (kept self.old) (kept self.new) (chapter_shown chapter.now ∷ [])) }
         ensures err { OnErr result (kept self.new ≡ kept self.old) };
 

@@ -16,6 +16,8 @@ pub enum TalkFault {
     Sink,
     /// The fleet was not opened.
     Opening(OpenFault),
+    /// Its robots were to take turns, and the rooms of the map did not pass their checks.
+    NoRooms,
     NoMemory,
 }
 

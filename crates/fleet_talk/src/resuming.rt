@@ -8,12 +8,13 @@ ghost use Rattle.fleet_core.specs.Hooks.{laws_of};
 ghost use Rattle.fleet_world.specs.Keeps.{talk};
 ghost use Rattle.fleet_talk.specs.Chapters.{chapter_shown};
 ghost use Rattle.fleet_talk.specs.Heading.{drafted};
-ghost use Rattle.fleet_talk.specs.Resumed.{IsDoorFault, IsResumeFault, LetsIn, MayResume, NoneWaits, disagreement, has_stamps, is_other, laws_after, limits_after, resumed, world_after};
+ghost use Rattle.fleet_talk.specs.Resumed.{IsDoorFault, IsResumeFault, IsUnresumed, LetsIn, MayResume, NoneWaits, TakesOn, disagreement, has_stamps, is_other, laws_after, limits_after, resumed_in, world_after};
 
 use crate::door::{Door, UnroomyErrand, counted, door_for, unroomy_errand};
 use crate::ends::Settings;
 use crate::fault::TalkFault;
 use crate::ground::{Ground, TALK_LIMITS};
+use crate::manner::planned;
 use fleet_book::Limits;
 use fleet_core::World;
 use fleet_history::{Chapter, Opening};
@@ -21,7 +22,7 @@ use fleet_hooks::Hooks;
 use fleet_reopen::{ReopenFault, reopen_world};
 use fleet_script::Head;
 use fleet_text::HookKit;
-use fleet_world::Session;
+use fleet_world::{NoTurns, Session};
 use std::alloc::{AllocError, Global};
 
 /// Why a conversation does not go on from a chapter, or how it broke off.
@@ -35,6 +36,8 @@ pub enum ResumeFault {
     Chapter(ReopenFault),
     /// An errand in a queue goes to a cell that is not roomy, where such errands are refused.
     Errand(UnroomyErrand),
+    /// The robots were to take turns, and the rooms of the map did not pass their checks.
+    NoRooms,
     /// The fleet went on, and the conversation broke off.
     Talk(TalkFault),
 }
@@ -211,7 +214,17 @@ fn door_to(
     }
 }
 
-/// Opens the fleet that goes on from a chapter, and its door.
+/// Why a conversation does not go on whose robots were to take turns.
+fn turns_fault(fault: NoTurns) -> ResumeFault
+    ensures { (fault ≡ NoTurns.NoMemory → result ≡ ResumeFault.Chapter ReopenFault.NoMemory) × (fault ≡ NoTurns.NoRooms → result ≡ ResumeFault.NoRooms) }
+{
+    match fault {
+        NoTurns::NoMemory => ResumeFault::Chapter(ReopenFault::NoMemory),
+        NoTurns::NoRooms => ResumeFault::NoRooms,
+    }
+}
+
+/// Opens the fleet that goes on from a chapter, and its door; its ticks are planned in the manner of the settings.
 pub(crate) fn reopen(
     alloc: Global,
     ground: Ground,
@@ -220,14 +233,21 @@ pub(crate) fn reopen(
 ) -> Result<(Session, Door), ResumeFault>
     // Of each call: only a call with a condition may hand on closures that another crate hands out.
     requires { 0 ≤ vec_len ground.kit.plain.ties }
-    ensures ok { IfOk result (λ r. talk r.0 ≡ resumed (kit_laws ground.kit) ground.grid (drafted ground.head) (chapter_shown chapter.now)) }
+    ensures ok { IfOk result (λ r. talk r.0 ≡ resumed_in (record { kit = kit_laws ground.kit; floor = ground.grid; settings = settings; head = drafted ground.head }) (chapter_shown chapter.now) r.0.world.core.turns) }
+    ensures takes { IfOk result (λ r. TakesOn (record { kit = kit_laws ground.kit; floor = ground.grid; settings = settings; head = drafted ground.head }) (chapter_shown chapter.now) r.0.world.core.turns) }
     ensures may { OnOk result (MayResume (kit_laws ground.kit) ground.grid (drafted ground.head) (chapter_shown chapter.now)) }
     ensures door { IfOk result (λ r. LetsIn (record { kit = kit_laws ground.kit; floor = ground.grid; settings = settings; head = drafted ground.head }) (chapter_shown chapter.now) r.1.refused.marks.items) }
     ensures known { IfOk result (λ r. AreRoomyFor r.0.world.core.floor r.1.roominess.items) }
-    ensures fault { IfErr result (λ fault. IsResumeFault settings.roomy (kit_laws ground.kit) ground.grid (drafted ground.head) (chapter_shown chapter.now) fault) }
+    ensures fault { IfErr result (IsUnresumed (record { kit = kit_laws ground.kit; floor = ground.grid; settings = settings; head = drafted ground.head }) (chapter_shown chapter.now)) }
 {
     match world_with_door(alloc, ground, chapter, settings) {
-        Ok((world, door)) => Ok((Session::over(alloc, world)?, door)),
+        Ok((world, door)) => {
+            let session = Session::over(alloc, world)?;
+            match planned(session, door, settings.manner) {
+                Ok(fleet) => Ok(fleet),
+                Err(fault) => Err(turns_fault(fault)),
+            }
+        }
         Err(fault) => Err(fault),
     }
 }

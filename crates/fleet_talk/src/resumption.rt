@@ -17,7 +17,7 @@ ghost use Rattle.fleet_talk.specs.Heading.{drafted};
 ghost use Rattle.fleet_talk.specs.Fleet.{opened_fleet};
 ghost use Rattle.fleet_talk.specs.Heard.{heard_lines};
 ghost use Rattle.fleet_talk.specs.Open.{fleet_of};
-ghost use Rattle.fleet_talk.specs.Resumed.{ComesOpen, IsAnswered, IsAnsweredInPart, IsRefusal, IsResumeFault, IsResumption, IsResumptionBegun};
+ghost use Rattle.fleet_talk.specs.Resumed.{ComesOpen, IsAnswered, IsAnsweredInPart, IsRefusal, IsResumeFault, IsResumption, IsResumptionBegun, IsRoomless};
 ghost use Rattle.fleet_talk.specs.Says.{Says};
 ghost use Rattle.fleet_talk.specs.Talked.{TalksUntil};
 
@@ -141,8 +141,11 @@ pub fn resume<R: Alloc<A = Global>, I: Read, W: Write, S: ChapterSink>(
         × Adds (S.kept ends.old.sink) (S.kept ends.new.sink) chapters)) }
     // No fleet goes on from the chapter, for this reason.
     ensures refused { IfErr result (λ fault. IsRefusal fault → IsResumeFault settings.roomy (kit_laws ground.kit) ground.grid (drafted ground.head) (chapter_shown chapter) fault) }
-    // Then no line was read, and nothing written or kept.
+    // Then no line was read, and nothing was written or kept.
     ensures untouched { IfErr result (λ fault. IsRefusal fault → ends.new ≡ ends.old) }
+    // A fleet goes on from it, but its robots were to take turns, and the rooms of the map did not pass their checks.
+    ensures roomless { result ≡ Err ResumeFault.NoRooms →
+        IsRoomless (record { kit = kit_laws ground.kit; floor = ground.grid; settings = settings; head = drafted ground.head }) (chapter_shown chapter) × (ends.new ≡ ends.old) }
     // A line could not be read, a chapter not kept, or memory ran out: all that was said until then was written.
     ensures broken { (why : TalkFault) → result ≡ Err (ResumeFault.Talk why) → IsMidway why → IfSome (reader_remaining I.remaining ends.old.input) (λ bytes. (text : List ℕ)
         × IsResumptionBegun (record { kit = kit_laws ground.kit; floor = ground.grid; settings = settings; head = drafted ground.head }) (chapter_shown chapter) bytes text

@@ -23,6 +23,8 @@ pub enum Complaint {
     /// The first line of the script that is not allowed where it is, counted from 1.
     Script(u32),
     Opening(OpenFault),
+    /// The robots were to take turns, and the rooms of the map did not pass their checks.
+    Rooms,
     Trace(TraceFault),
     Memory,
     /// The clock was spent or the chapter full at some event; in a serve, a lane was full, or lanes were not emptied.
@@ -51,7 +53,7 @@ impl Complaint {
         match self {
             Complaint::File => 3,
             Complaint::Map(_) => 4,
-            Complaint::Script(_) | Complaint::Opening(_) => 5,
+            Complaint::Script(_) | Complaint::Opening(_) | Complaint::Rooms => 5,
             Complaint::Trace(_) => 6,
             Complaint::Memory => 7,
             Complaint::Limit => 8,
@@ -74,6 +76,7 @@ impl fmt::Display for Complaint {
                 let text = OpenFaultText(fault);
                 write!(f, "opening {text}")
             }
+            Complaint::Rooms => f.write_str("opening 7 no-rooms"),
             Complaint::Trace(fault) => {
                 let text = TraceFaultText(fault);
                 write!(f, "trace {text}")

@@ -1,5 +1,5 @@
 -- What holds at the end of a run.
-use Rattle.std.proofs.Common.{◌≡◌, ℕ, ◌<◌, List, [], ◌++◌, length, map, sym, ap, ◌∙◌, subst, arith}
+use Rattle.std.proofs.Common.{◌≡◌, ℕ, ◌<◌, List, [], ◌++◌, None, length, map, sym, ap, ◌∙◌, subst, arith}
 use Rattle.std.specs.Prelude.{slice_index_or}
 use Rattle.std.proofs.lemmas.List.{append_assoc, length-map, length-replicate, get_or-replicate, get_or-map}
 use Rattle.fleet_grid.specs.Floor.{Floor}
@@ -9,11 +9,12 @@ use Rattle.fleet_book.specs.declared.notice.Notice.{Notice}
 use Rattle.fleet_book.specs.declared.order.Order.{Order}
 use Rattle.fleet_history.specs.declared.history.Opening.{Opening}
 use Rattle.fleet_history.specs.History.{start, clients, client_at, unknown_client}
-use Rattle.fleet_history.specs.Laws.{orders}
+use Rattle.fleet_history.specs.Laws.{EachTick, orders}
 use Rattle.fleet_history.specs.Rings.{KeepsRing}
 use Rattle.fleet_history.proofs.Rings.{ring-legal}
 use Rattle.fleet_history.proofs.Ticks.{each_tick-start}
 use Rattle.fleet_planner.specs.Planned.{IsPlanned}
+use Rattle.mover.specs.Moving.{IsPlannedAs}
 use Rattle.fleet_world.specs.declared.reply.Reply.{Reply}
 use Rattle.fleet_core.specs.Core.{World, opening_of, opened_world}
 use Rattle.fleet_core.specs.Hooks.{HookLaws, AreOrderly}
@@ -22,11 +23,12 @@ use Rattle.fleet_world.specs.Laws.{KeepsRings, KeepsEachRing, CollectsInOrder, I
 use Rattle.fleet_world.specs.Played.{client_lists}
 use Rattle.fleet_world.specs.Run.{State, Lists, Run, lane, outlet, mailbox, lists, no_lists, state_of, opened_state}
 use Rattle.fleet_world.proofs.FinalLists.{lists-left, KeepsRings-opened}
-use Rattle.fleet_world.proofs.StepLaws.{IsLegalWorld, ArePlanned, legal-run, ground-run, planned-run}
+use Rattle.fleet_world.proofs.StepLaws.{IsLegalWorld, legal-run, ground-run, planned-run}
 use Rattle.fleet_bound.specs.Bound.{KeepsBound, WaitsAreBounded}
 use Rattle.fleet_bound.specs.Roomy.{AdvancesIfRoomy, AreRoomy}
 use Rattle.fleet_bound.proofs.BoundLaws.{bounded-legal}
 use Rattle.fleet_bound.proofs.Roomy.{roomy-ticks}
+use Rattle.fleet_core.proofs.Manners.{plainly}
 use Rattle.fleet_core.proofs.WaitBound.{bound-opened}
 use Rattle.fleet_core.proofs.OpeningFacts.{legal-opened}
 use Rattle.fleet_world.proofs.Rings.{KeepsRings-run}
@@ -50,7 +52,7 @@ pub record IsEnd {A : Type 0} (o : World A) (s : State A) : Type 0 where
   pub legal : IsLegalWorld s.world
   pub ground : IsSameGround o s.world
   pub rings : KeepsRings s
-  pub planned : ArePlanned s.world
+  pub planned : EachTick (IsPlanned s.world.floor s.world.ties) s.world.history
   pub advancing : AreAdvancing s.world
   pub bounded : AreBounded s.world
 
@@ -61,7 +63,8 @@ ends {A = A} m starts n limits laws events replies s can orderly r =
     let opening : Opening A = opening_of starts n limits laws in
     let legal = legal-run o s events replies r (legal-opened m starts n limits laws can orderly) in
     let ground = ground-run o s events replies r in
-    let planned = planned-run o s events replies r (each_tick-start (IsPlanned m laws.ties) opening) in
+    let planned : EachTick (IsPlanned s.world.floor s.world.ties) s.world.history =
+    plainly s.world.floor s.world.ties s.world.history s.world.turns ground.turns (planned-run o s events replies r (each_tick-start (IsPlannedAs None m laws.ties) opening)) in
     let advancing : AreAdvancing s.world = roomy-ticks s.world.floor s.world.ties s.world.history legal planned in
     record {
       legal = legal;

@@ -9,7 +9,7 @@ use Rattle.fleet_history.specs.History.{clients}
 use Rattle.fleet_history.specs.Legal.{IsLegal, grown}
 use Rattle.fleet_history.specs.Laws.{EachTick}
 use Rattle.fleet_history.proofs.Ticks.{each_tick-tick, each_tick-take, each_tick-shut}
-use Rattle.fleet_planner.specs.Planned.{IsPlanned}
+use Rattle.mover.specs.Moving.{IsPlannedAs}
 use Rattle.fleet_core.specs.declared.faults.TakeFault.TheVariants as take_fault
 use Rattle.fleet_core.specs.declared.faults.TickFault.TheVariants as tick_fault
 use Rattle.fleet_core.specs.declared.faults.ShutFault.TheVariants as shut_fault
@@ -84,30 +84,30 @@ module _ {A : Type 0} where
   pub legal-run : (s t : State A) (events : List Event) (replies : List Reply) → Run s events replies t → IsLegalWorld s.world → IsLegalWorld t.world
   legal-run s t events replies r k = run-moves IsLegalWorld legal-move s t events replies r k
 
-  -- ---- the map, the limits, the laws and the opening
+  -- ---- the map, the limits, the laws, the turns and the opening
 
   ground-move : (o w v : World A) → IsMove w v → IsSameGround o w → IsSameGround o v
   ground-move o w v (rests e) k = subst (IsSameGround o) (sym e) k
-  ground-move o w v (gives c e) k = subst (IsSameGround o) (sym e) (record { floor = k.floor; limits = k.limits; ties = k.ties; number = k.number; opening = k.opening })
-  ground-move o w v (takes c order verdict inside t) k = subst (IsSameGround o) (sym t.world) (record { floor = k.floor; limits = k.limits; ties = k.ties; number = k.number; opening = k.opening })
-  ground-move o w v (ticks report t) k = subst (IsSameGround o) (sym t.world) (record { floor = k.floor; limits = k.limits; ties = k.ties; number = k.number; opening = k.opening })
-  ground-move o w v (shuts r farewell t) k = subst (IsSameGround o) (sym t.world) (record { floor = k.floor; limits = k.limits; ties = k.ties; number = k.number; opening = k.opening })
+  ground-move o w v (gives c e) k = subst (IsSameGround o) (sym e) (record { floor = k.floor; limits = k.limits; ties = k.ties; turns = k.turns; number = k.number; opening = k.opening })
+  ground-move o w v (takes c order verdict inside t) k = subst (IsSameGround o) (sym t.world) (record { floor = k.floor; limits = k.limits; ties = k.ties; turns = k.turns; number = k.number; opening = k.opening })
+  ground-move o w v (ticks report t) k = subst (IsSameGround o) (sym t.world) (record { floor = k.floor; limits = k.limits; ties = k.ties; turns = k.turns; number = k.number; opening = k.opening })
+  ground-move o w v (shuts r farewell t) k = subst (IsSameGround o) (sym t.world) (record { floor = k.floor; limits = k.limits; ties = k.ties; turns = k.turns; number = k.number; opening = k.opening })
 
   pub ground-run : (s t : State A) (events : List Event) (replies : List Reply) → Run s events replies t → IsSameGround s.world t.world
   ground-run s t events replies r =
-      run-moves (IsSameGround s.world) (ground-move s.world) s t events replies r (record { floor = refl; limits = refl; ties = refl; number = refl; opening = refl })
+      run-moves (IsSameGround s.world) (ground-move s.world) s t events replies r (record { floor = refl; limits = refl; ties = refl; turns = refl; number = refl; opening = refl })
 
   -- ---- each tick
 
   abbrev pub ArePlanned : World A → Type 0
-  ArePlanned w = EachTick (IsPlanned w.floor w.ties) w.history
+  ArePlanned w = EachTick (IsPlannedAs w.turns w.floor w.ties) w.history
 
   planned-move : (w v : World A) → IsMove w v → ArePlanned w → ArePlanned v
   planned-move w v (rests e) k = subst ArePlanned (sym e) k
   planned-move w v (gives c e) k = subst ArePlanned (sym e) k
-  planned-move w v (takes c order verdict inside t) k = subst ArePlanned (sym t.world) (each_tick-take (IsPlanned w.floor w.ties) w.history c order verdict k)
-  planned-move w v (ticks report t) k = subst ArePlanned (sym t.world) (each_tick-tick (IsPlanned w.floor w.ties) w.history t.to t.arrived t.farewells k t.planned)
-  planned-move w v (shuts r farewell t) k = subst ArePlanned (sym t.world) (each_tick-shut (IsPlanned w.floor w.ties) w.history r farewell k)
+  planned-move w v (takes c order verdict inside t) k = subst ArePlanned (sym t.world) (each_tick-take (IsPlannedAs w.turns w.floor w.ties) w.history c order verdict k)
+  planned-move w v (ticks report t) k = subst ArePlanned (sym t.world) (each_tick-tick (IsPlannedAs w.turns w.floor w.ties) w.history t.to t.arrived t.farewells k t.planned)
+  planned-move w v (shuts r farewell t) k = subst ArePlanned (sym t.world) (each_tick-shut (IsPlannedAs w.turns w.floor w.ties) w.history r farewell k)
 
   pub planned-run : (s t : State A) (events : List Event) (replies : List Reply) → Run s events replies t → ArePlanned s.world → ArePlanned t.world
   planned-run s t events replies r k = run-moves ArePlanned planned-move s t events replies r k

@@ -29,10 +29,11 @@ KeepsEachRing s = (c : ℕ) → c < clients s.world.history → KeepsRing s.worl
 abbrev pub CollectsInOrder : {A : Type 0} → History A → List (List Notice) → Type 0
 CollectsInOrder h collected = (c : ℕ) → c < clients h → IsPrefixOf (slice_index_or collected c []) (notices h c)
 
--- what no event changes: the map, the limits, the tie laws, the chapter's number and its opening
+-- what no event changes: the map, the limits, the tie laws, the turns, the chapter's number and its opening
 pub record IsSameGround {A : Type 0} (before after : World A) : Type 0 where
   pub floor : after.floor ≡ before.floor
   pub limits : after.limits ≡ before.limits
   pub ties : after.ties ≡ before.ties
+  pub turns : after.turns ≡ before.turns
   pub number : after.number ≡ before.number
   pub opening : after.history.opening ≡ before.history.opening

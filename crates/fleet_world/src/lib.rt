@@ -21,7 +21,8 @@ pub use crate::session::Session;
 pub use crate::waiting::Waiting;
 pub use fleet_book::{Event, Limits, Notice, Order, Verdict};
 pub use fleet_core::{
-    ChapterFault, Core, OpenFault, RobotHooks, ShutFault, TakeFault, TickFault, TickReport, World,
+    ChapterFault, Core, NoTurns, OpenFault, RobotHooks, ShutFault, TakeFault, TickFault,
+    TickReport, World,
 };
 pub use fleet_history::{Arrival, Bye, Chapter, ClientState, Entry, Opening, RobotState, Row};
 pub use fleet_hooks::{Hooks, StampLaw};

@@ -1,13 +1,13 @@
 //! A world, and the orders and notices of its clients that wait.
 
-ghost use Rattle.std.specs.Prelude.{◌≡◌, ◌≤◌, ◌<◌, ◌^◌, ◌+◌, ◌↔◌, IfOk, OnOk, OnErr, Err, replicate, length, vec_len};
+ghost use Rattle.std.specs.Prelude.{◌≡◌, ◌≤◌, ◌<◌, ◌^◌, ◌+◌, ◌↔◌, [], None, IfOk, OnOk, OnErr, Err, replicate, length, vec_len};
 ghost use Rattle.fleet_history.specs.History.{clients as client_count, history_of};
 ghost use Rattle.fleet_history.specs.Laws.{EachTick};
 ghost use Rattle.fleet_history.specs.Legal.{IsLegal};
-ghost use Rattle.fleet_planner.specs.Planned.{IsPlanned};
+ghost use Rattle.mover.specs.Moving.{IsPlannedAs};
 ghost use Rattle.fleet_bound.specs.Bound.{WaitsAreBounded};
 ghost use Rattle.fleet_bound.specs.Roomy.{AdvancesIfRoomy, HasBound};
-ghost use Rattle.fleet_core.specs.Core.{opened_world, next_world};
+ghost use Rattle.fleet_core.specs.Core.{ServesInTurns, TakesTurns, opened_world, next_world};
 ghost use Rattle.fleet_core.specs.Hooks.{laws_of, AreOrderly};
 ghost use Rattle.fleet_core.specs.Opening.{CanOpen};
 ghost use Rattle.fleet_core.specs.OpeningFaults.{IsRefused, IsNamed};
@@ -15,7 +15,7 @@ ghost use Rattle.fleet_world.specs.Talk.{none_waiting, talk_of, opened_talk, qui
 
 use crate::waiting::Waiting;
 use fleet_book::Limits;
-use fleet_core::{ChapterFault, OpenFault, World};
+use fleet_core::{ChapterFault, NoTurns, OpenFault, World};
 use fleet_grid::Grid;
 use fleet_history::Chapter;
 use fleet_hooks::Hooks;
@@ -79,6 +79,16 @@ impl<A: Allocator + Copy> Session<A> {
         }
     }
 
+    /// Lets the robots take turns from now on, as `World::take_turns` does. The chapter must have no entry yet.
+    pub fn take_turns(&mut self) -> Result<(), NoTurns>
+        requires { self.old.world.core.history.entries ≡ [] }
+        ensures taken { OnOk result (TakesTurns self.old.world.core self.new.world.core) }
+        ensures waiting { self.new.waiting ≡ self.old.waiting }
+        ensures refused { OnErr result (self.new.world.core ≡ self.old.world.core) }
+    {
+        self.world.take_turns()
+    }
+
     /// Ends the chapter and returns it. The next one opens with the state that the world is in, and each client's
     /// orders and notices wait on as before.
     ///
@@ -90,10 +100,11 @@ impl<A: Allocator + Copy> Session<A> {
         ensures history { IfOk result (λ chapter. history_of chapter ≡ self.old.world.core.history) }
         ensures number { IfOk result (λ chapter. chapter.number ≡ self.old.world.core.number) }
         ensures legal { OnOk result (IsLegal self.old.world.core.floor self.old.world.core.history) }
-        ensures planned { OnOk result (EachTick (IsPlanned self.old.world.core.floor self.old.world.core.ties) self.old.world.core.history) }
-        ensures advancing { OnOk result (AdvancesIfRoomy self.old.world.core.floor self.old.world.core.history) }
-        ensures bounded { OnOk result (HasBound self.old.world.core.floor self.old.world.core.history →
+        ensures planned { OnOk result (EachTick (IsPlannedAs self.old.world.core.turns self.old.world.core.floor self.old.world.core.ties) self.old.world.core.history) }
+        ensures advancing { OnOk result (self.old.world.core.turns ≡ None → AdvancesIfRoomy self.old.world.core.floor self.old.world.core.history) }
+        ensures bounded { OnOk result (self.old.world.core.turns ≡ None → HasBound self.old.world.core.floor self.old.world.core.history →
             WaitsAreBounded self.old.world.core.floor self.old.world.core.history) }
+        ensures served { OnOk result (ServesInTurns self.old.world.core.turns self.old.world.core.floor self.old.world.core.history) }
         ensures next { OnOk result (talk_of self.new.world.core self.new.waiting.items ≡ next_talk (talk_of self.old.world.core self.old.waiting.items)) }
         ensures err { OnErr result (talk_of self.new.world.core self.new.waiting.items ≡ talk_of self.old.world.core self.old.waiting.items) }
     {
@@ -106,9 +117,10 @@ impl<A: Allocator + Copy> Session<A> {
         ensures history { history_of result.1 ≡ self.world.core.history }
         ensures number { result.1.number ≡ self.world.core.number }
         ensures legal { IsLegal self.world.core.floor self.world.core.history }
-        ensures planned { EachTick (IsPlanned self.world.core.floor self.world.core.ties) self.world.core.history }
-        ensures advancing { AdvancesIfRoomy self.world.core.floor self.world.core.history }
-        ensures bounded { HasBound self.world.core.floor self.world.core.history → WaitsAreBounded self.world.core.floor self.world.core.history }
+        ensures planned { EachTick (IsPlannedAs self.world.core.turns self.world.core.floor self.world.core.ties) self.world.core.history }
+        ensures advancing { self.world.core.turns ≡ None → AdvancesIfRoomy self.world.core.floor self.world.core.history }
+        ensures bounded { self.world.core.turns ≡ None → HasBound self.world.core.floor self.world.core.history → WaitsAreBounded self.world.core.floor self.world.core.history }
+        ensures served { ServesInTurns self.world.core.turns self.world.core.floor self.world.core.history }
     {
         let Session { world, waiting: _ } = self;
         world.finish()

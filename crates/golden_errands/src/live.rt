@@ -19,7 +19,7 @@ ghost use Rattle.std.specs.Prelude.{◌≤◌, length};
 
 use crate::options::Conversation;
 use clock::{Hands, Paced};
-use fleet_lib::{Live, LiveEnds, Pipes, TalkTexts, run_live, write_whole};
+use fleet_lib::{Live, LiveEnds, Pipes, Recalls, TalkTexts, run_live, write_whole};
 use spoken::{Ear, Spoken};
 use std::alloc::{Alloc, AllocError, Global};
 use std::io::{Stderr, Stdout};
@@ -28,7 +28,7 @@ use std::thread::Threads;
 use std::time::Clock;
 use test_kit::blocks_of;
 use timed::Timed;
-use tray::{Counts, Tray};
+use tray::{Counts, NoJournal, Tray};
 
 /// A hall of nine cells with a dead end of three.
 const STUB: &[u8] = b"type octile\nheight 3\nwidth 6\nmap\n...@@@\n......\n...@@@\n";
@@ -57,12 +57,15 @@ fn words(alloc: Global, case: Conversation<'_>) -> Result<Live, AllocError> {
         resume: false,
         resume_only: false,
         keep_every: None,
+        journal: false,
+        recall: None,
         chapter_bytes: None,
         metrics: None,
         pipes: Vec::new(alloc),
         watch: case.has(b"+ watch"),
         service: false,
         roomy: case.has(b"+ roomy"),
+        planner: None,
     })
 }
 
@@ -95,7 +98,7 @@ fn ends_of<R: Clock + Threads + Copy + Drop>(
     case: Conversation<'_>,
     output: (Stdout, Stderr),
     sink: Tray,
-) -> Result<LiveEnds<Timed<R>, Spoken, Timed<R>, Spoken, Spoken, Tray>, AllocError> {
+) -> Result<LiveEnds<Timed<R>, Spoken, Timed<R>, Spoken, Spoken, Tray, NoJournal>, AllocError> {
     let bytes = Vec::from_slice(alloc, case.lines)?;
     let counts = if case.after(b"+ period ").is_some() {
         Ear::Output(output.0)
@@ -113,6 +116,8 @@ fn ends_of<R: Clock + Threads + Copy + Drop>(
         counts: Spoken { ear: counts, hands },
         figures: None,
         sink,
+        journal: None,
+        recalls: Recalls::new(alloc, 0),
     })
 }
 

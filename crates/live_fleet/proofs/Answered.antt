@@ -3,7 +3,6 @@ use Rattle.std.proofs.Common.{◌≡◌, ◌∙◌, ℕ, ◌<◌, Bool, true, fa
 use Rattle.std.proofs.lemmas.Option.{slice_get_read}
 use Rattle.std.specs.Prelude.{MatchBool, OnOk, IfOk, slice_get, slice_set}
 use Rattle.std.specs.declared.alloc.Global.{Global}
-use Rattle.fleet_talk.specs.Fleet.{Fleet}
 use Rattle.live_fleet.specs.declared.rest.Rest.{Rest}
 use Rattle.live_fleet.specs.declared.rest.Rest.TheVariants.{Nothing, Line}
 use Rattle.live_fleet.specs.declared.speaker.Speaker.{Speaker}
@@ -11,12 +10,12 @@ use Rattle.live_fleet.specs.Act.{Act, said}
 use Rattle.live_fleet.specs.Answering.{Answers, AnswersIn, at_once, later, now, waits}
 use Rattle.live_fleet.specs.Out.{Out, Fits, text_at}
 use Rattle.live_fleet.specs.Party.{Stage, resting, with_at, with_rest, with_speaker}
-use Rattle.live_fleet.specs.Went.{At}
+use Rattle.live_fleet.specs.Went.{At, FleetView}
 use Rattle.live_fleet.proofs.Going.{went-said}
 use Rattle.live_fleet.proofs.Steps.{at-same}
 
 pub same-at : (a b : At) → b.fleet ≡ a.fleet → b.out ≡ a.out → b ≡ a
-same-at a b fleet out = at-same a b (ap (λ (f : Fleet Global). f.talk) fleet) (ap (λ (f : Fleet Global). f.met) fleet) (ap (λ (o : Out). o.texts) out) (ap (λ (o : Out). o.chapters) out)
+same-at a b fleet out = at-same a b (ap (λ (f : FleetView). f.talk) fleet) (ap (λ (f : FleetView). f.met) fleet) (ap (λ (f : FleetView). f.recalls) fleet) (ap (λ (o : Out). o.texts) out) (ap (λ (o : Out). o.chapters) out)
 
 -- it was said
 pub answered-now : {T E : Type 0} (r : Result T E) (to : ℕ) (text : List ℕ) (old new : Out) → Fits (text_at old to) (length text) → OnOk r (new.texts ≡ slice_set old.texts to (text_at old to ++ text)) → new.chapters ≡ old.chapters

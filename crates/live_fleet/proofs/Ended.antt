@@ -176,14 +176,14 @@ takes-next c reply more a b (acts, step) wants is = (
 
 -- the mailbox grew, and the order was judged
 pub takes-wider : (c : ℕ) (reply again : Reply) (more : Bool) (a m n b : At) → ((acts : List Act) × StepsOn (Take c) reply a acts m) → wants_mailbox reply ≡ true
-    → n.fleet.talk ≡ talk_of (widened m.fleet.talk.world c (missing_room m.fleet.talk.world c)) m.fleet.talk.clients → n.fleet.met ≡ m.fleet.met → n.out ≡ m.out → ((acts : List Act) × StepsOn (Take c) again n acts b) → more ≡ is_took again
+    → n.fleet.talk ≡ talk_of (widened m.fleet.talk.world c (missing_room m.fleet.talk.world c)) m.fleet.talk.clients → n.fleet.met ≡ m.fleet.met → n.fleet.recalls ≡ m.fleet.recalls → n.out ≡ m.out → ((acts : List Act) × StepsOn (Take c) again n acts b) → more ≡ is_took again
     → (acts : List Act) × TakesNext c more a acts b
-takes-wider c reply again more a m n b (xs, first) wants grown met out (ys, second) is =
+takes-wider c reply again more a m n b (xs, first) wants grown met recalls out (ys, second) is =
     let extra = missing_room m.fleet.talk.world c in
     let lane : n.fleet.talk.clients ≡ a.fleet.talk.clients = ap (λ (x : Talk Global). x.clients) grown ∙ steps_same c reply a xs m first wants in (
       xs ++ (grew c extra ∷ ys),
       record {
-        went = went-then a m b xs (grew c extra ∷ ys) (steps-went (Take c) reply a xs m first) (went-then m n b (grew c extra ∷ []) ys (went-grew m n c extra grown met out) (steps-went (Take c) again n ys b second));
+        went = went-then a m b xs (grew c extra ∷ ys) (steps-went (Take c) reply a xs m first) (went-then m n b (grew c extra ∷ []) ys (went-grew m n c extra grown met recalls out) (steps-went (Take c) again n ys b second));
         only = all-then (IsClosing c) xs (grew c extra ∷ ys) (only_closing c reply a xs m first) (refl, only_closing c again n ys b second);
         fewer = λ took. subst (λ (l : List Waiting). length (waiting b.fleet.talk c).lane < length (slice_index_or l c none_waiting).lane) lane (steps_fewer c again n ys b second (sym is ∙ took));
         whole = λ none. let (s, last) = last-step (Take c) again n ys b second in

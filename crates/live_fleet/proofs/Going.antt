@@ -18,10 +18,11 @@ use Rattle.fleet_world.specs.declared.reply.Reply.TheVariants.{Collected}
 use Rattle.fleet_world.specs.Talk.{Talk, TalkStep, next_talk, talk_of}
 use Rattle.fleet_talk.specs.Acts.{NeedsRoom}
 use Rattle.fleet_talk.specs.Chapters.{ChapterView, IsSound, chapter_in}
-use Rattle.fleet_talk.specs.Fleet.{Fleet}
+use Rattle.live_parts.specs.Recalls.{Recalls, noted}
 use Rattle.live_fleet.specs.Act.{Act, Acts, Runs, did, full, handed, told, said, grew, meets_limit, met_by}
 use Rattle.live_fleet.specs.Out.{Out, Fits, IsWithin, chapters_of, handed_by, text_at, told_by, told_to}
-use Rattle.live_fleet.specs.Went.{At, Went}
+use Rattle.live_fleet.specs.Recalling.{noted_at, noted_by}
+use Rattle.live_fleet.specs.Went.{At, FleetView, Went}
 
 -- ---- truth values
 
@@ -41,6 +42,12 @@ met-then met xs ys = or_then met (met_by xs) (met_by ys) ∙ ap (λ m. met || m)
 pub runs-then : (s m t : Talk Global) (xs ys : List Act) → Runs s xs m → Runs m ys t → Runs s (xs ++ ys) t
 runs-then s m t [] ys same more = subst (λ (x : Talk Global). Runs x ys t) same more
 runs-then s m t (x ∷ xs) ys (mid, act, rest) more = (mid, act, runs-then mid m t xs ys rest more)
+
+-- ---- what is kept of notices that were told
+
+pub noted-then : (r : Recalls) (xs ys : List Act) → noted_by ys (noted_by xs r) ≡ noted_by (xs ++ ys) r
+noted-then r [] ys = refl
+noted-then r (x ∷ xs) ys = noted-then (noted_at x r) xs ys
 
 -- ---- texts
 
@@ -67,6 +74,7 @@ pub went-none : (a : At) → Went a [] a
 went-none a = record {
   runs = refl;
   met = or_none a.fleet.met;
+  recalls = refl;
   count = refl;
   tells = λ k. sym (append-nil (text_at a.out k));
   hands = sym (append-nil a.out.chapters);
@@ -77,6 +85,7 @@ pub went-then : (a b c : At) (xs ys : List Act) → Went a xs b → Went b ys c 
 went-then a b c xs ys x y = record {
   runs = runs-then a.fleet.talk b.fleet.talk c.fleet.talk xs ys x.runs y.runs;
   met = y.met ∙ (ap (λ m. m || met_by ys) x.met ∙ met-then a.fleet.met xs ys);
+  recalls = y.recalls ∙ (ap (noted_by ys) x.recalls ∙ noted-then a.fleet.recalls xs ys);
   count = y.count ∙ x.count;
   tells = λ k. y.tells k ∙ (ap (λ (l : List ℕ). l ++ told_to k ys) (x.tells k) ∙ (append_assoc (text_at a.out k) (told_to k xs) (told_to k ys) ∙ ap (λ (l : List ℕ). text_at a.out k ++ l) (sym (flat_map-append (told_by k) xs ys))));
   hands = y.hands ∙ (ap (λ (l : List (ChapterView Global)). l ++ chapters_of ys) x.hands ∙ (append_assoc a.out.chapters (chapters_of xs) (chapters_of ys) ∙ ap (λ (l : List (ChapterView Global)). a.out.chapters ++ l) (sym (flat_map-append handed_by xs ys))));
@@ -84,10 +93,12 @@ went-then a b c xs ys x y = record {
 }
 
 -- where nothing is said and no chapter handed out
-quiet : (a b : At) (act : Act) → Acts a.fleet.talk act b.fleet.talk → b.fleet.met ≡ (a.fleet.met || met_by (act ∷ [])) → b.out ≡ a.out → ((k : ℕ) → told_by k act ≡ []) → handed_by act ≡ [] → Went a (act ∷ []) b
-quiet a b act acts met same silent none = record {
+quiet : (a b : At) (act : Act) → Acts a.fleet.talk act b.fleet.talk → b.fleet.met ≡ (a.fleet.met || met_by (act ∷ [])) → b.fleet.recalls ≡ noted_at act a.fleet.recalls → b.out ≡ a.out → ((k : ℕ) → told_by k act ≡ []) → handed_by act ≡ []
+    → Went a (act ∷ []) b
+quiet a b act acts met recalls same silent none = record {
   runs = (b.fleet.talk, acts, refl);
   met = met;
+  recalls = recalls;
   count = ap (λ (o : Out). length o.texts) same;
   tells = λ k. ap (λ (o : Out). text_at o k) same ∙ (sym (append-nil (text_at a.out k)) ∙ ap (λ (l : List ℕ). text_at a.out k ++ (l ++ [])) (sym (silent k)));
   hands = ap (λ (o : Out). o.chapters) same ∙ (sym (append-nil a.out.chapters) ∙ ap (λ (l : List (ChapterView Global)). a.out.chapters ++ (l ++ [])) (sym none));
@@ -99,20 +110,21 @@ or_false true b = refl
 or_false false true = refl
 or_false false false = refl
 
-pub went-did : (a b : At) (e : Event) (reply : Reply) → TalkStep a.fleet.talk e reply b.fleet.talk → b.fleet.met ≡ (a.fleet.met || is_limit_met reply) → b.out ≡ a.out → Went a (did e reply ∷ []) b
-went-did a b e reply step met same = quiet a b (did e reply) step (met ∙ sym (or_false a.fleet.met (is_limit_met reply))) same (λ k. refl) refl
+pub went-did : (a b : At) (e : Event) (reply : Reply) → TalkStep a.fleet.talk e reply b.fleet.talk → b.fleet.met ≡ (a.fleet.met || is_limit_met reply) → b.fleet.recalls ≡ a.fleet.recalls → b.out ≡ a.out → Went a (did e reply ∷ []) b
+went-did a b e reply step met recalls same = quiet a b (did e reply) step (met ∙ sym (or_false a.fleet.met (is_limit_met reply))) recalls same (λ k. refl) refl
 
-pub went-grew : (a b : At) (c extra : ℕ) → b.fleet.talk ≡ talk_of (widened a.fleet.talk.world c extra) a.fleet.talk.clients → b.fleet.met ≡ a.fleet.met → b.out ≡ a.out → Went a (grew c extra ∷ []) b
-went-grew a b c extra grown met same = quiet a b (grew c extra) grown (met ∙ or_none a.fleet.met) same (λ k. refl) refl
+pub went-grew : (a b : At) (c extra : ℕ) → b.fleet.talk ≡ talk_of (widened a.fleet.talk.world c extra) a.fleet.talk.clients → b.fleet.met ≡ a.fleet.met → b.fleet.recalls ≡ a.fleet.recalls → b.out ≡ a.out → Went a (grew c extra ∷ []) b
+went-grew a b c extra grown met recalls same = quiet a b (grew c extra) grown (met ∙ or_none a.fleet.met) recalls same (λ k. refl) refl
 
 pub went-full : (a : At) (e : Event) → NeedsRoom a.fleet.talk e → Went a (full e ∷ []) a
-went-full a e needs = quiet a a (full e) (needs, refl) (or_none a.fleet.met) refl (λ k. refl) refl
+went-full a e needs = quiet a a (full e) (needs, refl) (or_none a.fleet.met) refl refl (λ k. refl) refl
 
-pub went-handed : (a b : At) → IsSound a.fleet.talk.world.floor a.fleet.talk.world.history → b.fleet.talk ≡ next_talk a.fleet.talk → b.fleet.met ≡ a.fleet.met → b.out.texts ≡ a.out.texts
+pub went-handed : (a b : At) → IsSound a.fleet.talk.world.turns a.fleet.talk.world.floor a.fleet.talk.world.history → b.fleet.talk ≡ next_talk a.fleet.talk → b.fleet.met ≡ a.fleet.met → b.fleet.recalls ≡ a.fleet.recalls → b.out.texts ≡ a.out.texts
     → b.out.chapters ≡ a.out.chapters ++ chapter_in a.fleet.talk.world ∷ [] → Went a (handed (chapter_in a.fleet.talk.world) ∷ []) b
-went-handed a b sound next met texts chapters = record {
+went-handed a b sound next met recalls texts chapters = record {
   runs = (b.fleet.talk, (refl, sound, next), refl);
   met = met ∙ or_none a.fleet.met;
+  recalls = recalls;
   count = ap length texts;
   tells = λ k. ap (λ (t : List (List ℕ)). slice_index_or t k []) texts ∙ sym (append-nil (text_at a.out k));
   hands = chapters;
@@ -163,8 +175,9 @@ pub went-said : (a b : At) (to : ℕ) (text : List ℕ) → to < length a.out.te
 went-said a b to text inside fits same texts chapters =
     let adds = adds-one a.out b.out to text inside fits texts chapters in
     record {
-      runs = (b.fleet.talk, ap (λ (f : Fleet Global). f.talk) same, refl);
-      met = ap (λ (f : Fleet Global). f.met) same ∙ or_none a.fleet.met;
+      runs = (b.fleet.talk, ap (λ (f : FleetView). f.talk) same, refl);
+      met = ap (λ (f : FleetView). f.met) same ∙ or_none a.fleet.met;
+      recalls = ap (λ (f : FleetView). f.recalls) same;
       count = adds.count;
       tells = adds.tells;
       hands = adds.hands;
@@ -172,12 +185,13 @@ went-said a b to text inside fits same texts chapters =
     }
 
 pub went-told : (a b : At) (to client : ℕ) (notice : Notice) → to < length a.out.texts → Fits (text_at a.out to) (length (notice_line client notice)) → TalkStep a.fleet.talk (Collect client) (Collected notice) b.fleet.talk
-    → b.fleet.met ≡ a.fleet.met → b.out.texts ≡ slice_set a.out.texts to (text_at a.out to ++ notice_line client notice) → b.out.chapters ≡ a.out.chapters → Went a (told to client notice ∷ []) b
-went-told a b to client notice inside fits step met texts chapters =
+    → b.fleet.met ≡ a.fleet.met → b.fleet.recalls ≡ noted client notice a.fleet.recalls → b.out.texts ≡ slice_set a.out.texts to (text_at a.out to ++ notice_line client notice) → b.out.chapters ≡ a.out.chapters → Went a (told to client notice ∷ []) b
+went-told a b to client notice inside fits step met recalls texts chapters =
     let adds = adds-one a.out b.out to (notice_line client notice) inside fits texts chapters in
     record {
       runs = (b.fleet.talk, step, refl);
       met = met ∙ or_none a.fleet.met;
+      recalls = recalls;
       count = adds.count;
       tells = adds.tells;
       hands = adds.hands;

@@ -174,6 +174,8 @@ obeys-keeps k sp line demand.Nothing s acts t (none, same) = keeps_none s t acts
 obeys-keeps k sp line (demand.Post client order) s acts t hears = if_own (is_own sp.clients s.clients client) _ k sp line.mark client s acts t (λ posts. posts-keeps k sp line.mark client order s acts t posts) hears
 obeys-keeps k sp line (demand.NoRoom client) s acts t hears = if_own (is_own sp.clients s.clients client) _ k sp line.mark client s acts t (λ answers. answers-keeps k sp _ s acts t answers) hears
 obeys-keeps k sp line (demand.Open client) s acts t hears = if_own (is_own sp.clients s.clients client) _ k sp line.mark client s acts t (λ opens. opens-keeps k sp line.mark client s acts t opens) hears
+obeys-keeps k sp line (demand.Session client) s acts t hears = if_own (is_own sp.clients s.clients client) _ k sp line.mark client s acts t (λ answers. answers-keeps k sp _ s acts t answers) hears
+obeys-keeps k sp line (demand.Since client seq) s acts t hears = if_own (is_own sp.clients s.clients client) _ k sp line.mark client s acts t (λ answers. answers-keeps k sp _ s acts t answers) hears
 obeys-keeps k sp line (demand.Ask asked) s acts t grants = grants-keeps k sp line.mark asked s acts t grants
 obeys-keeps k sp line (demand.Watch on) s acts t answers =
     keeps_from s t acts k (record sp { watching = on }) (answers-keeps k (record sp { watching = on }) _ (with_speaker s k (record sp { watching = on })) acts t answers)

@@ -1,9 +1,10 @@
 -- Runs, and the chapters that are handed out in them.
-use Rattle.std.proofs.Common.{◌≡◌, ◌∙◌, List, [], ◌∷◌, ◌++◌, refl, sym, ap, subst}
+use Rattle.std.proofs.Common.{◌≡◌, ◌∙◌, List, Option, [], ◌∷◌, ◌++◌, refl, sym, ap, subst}
 use Rattle.std.specs.List.{AllByRecursion}
 use Rattle.std.specs.declared.alloc.Global.{Global}
 use Rattle.fleet_grid.specs.Floor.{Floor}
 use Rattle.fleet_bound.proofs.BoundLaws.{bounded-legal}
+use Rattle.turns_law.specs.Turns.{Turns}
 use Rattle.fleet_history.specs.History.{History}
 use Rattle.fleet_history.proofs.Arrivals.{arrives-legal, arrivals_rise-legal}
 use Rattle.fleet_history.proofs.Legal.{no_conflict-legal, none_closed-legal}
@@ -36,17 +37,18 @@ runs-turned s (grew client extra ∷ acts) t (m, same, runs) = from_alike m s t 
 
 -- ---- what holds of each history that is handed out
 
-sound_safe : (m : Floor) (h : History Global) → IsSound m h → IsSafe m h
-sound_safe m h sound = record {
+sound_safe : (turns : Option Turns) (m : Floor) (h : History Global) → IsSound turns m h → IsSafe turns m h
+sound_safe turns m h sound = record {
   conflicts = no_conflict-legal m h sound.legal;
   arrivals = arrives-legal m h sound.legal;
   rise = arrivals_rise-legal m h sound.legal;
   closes = none_closed-legal m h sound.legal;
   numbered = λ c. numbered-legal m h c sound.legal;
   advancing = sound.advancing;
-  bounded = λ roomy begins. bounded-legal m h sound.legal (sound.advancing roomy) begins;
+  bounded = λ none roomy begins. bounded-legal m h sound.legal (sound.advancing none roomy) begins;
+  served = sound.served;
 }
 
-pub turned-safe : (b : Beginning Global) (chapters : List (ChapterView Global)) (end : Beginning Global) → AreTurned b chapters end → AllByRecursion (λ (x : ChapterView Global). IsSafe b.floor x.history) chapters
+pub turned-safe : (b : Beginning Global) (chapters : List (ChapterView Global)) (end : Beginning Global) → AreTurned b chapters end → AllByRecursion (λ (x : ChapterView Global). IsSafe b.turns b.floor x.history) chapters
 turned-safe b [] end same = tt
-turned-safe b (x ∷ chapters) end (from, turned) = (sound_safe b.floor x.history from.sound, turned-safe (next_beginning b x.history) chapters end turned)
+turned-safe b (x ∷ chapters) end (from, turned) = (sound_safe b.turns b.floor x.history from.sound, turned-safe (next_beginning b x.history) chapters end turned)

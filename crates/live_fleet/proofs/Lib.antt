@@ -20,6 +20,9 @@ pub mod Whose
 pub mod Plays
 pub mod Shown
 pub mod Quiet
+pub mod Made
+pub mod Kept
 pub mod Once
 pub mod Lists
 pub mod Heard
+pub mod Again

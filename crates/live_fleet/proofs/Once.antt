@@ -28,6 +28,7 @@ use Rattle.live_fleet.specs.declared.speaker.Clients.{Clients}
 use Rattle.live_fleet.specs.Act.{Act, Runs, did, full, handed, told, said, grew}
 use Rattle.live_fleet.specs.Law.{IsKnown, IsToldRight, left_of, notices_in, notices_told}
 use Rattle.live_fleet.specs.Out.{chapters_of}
+use Rattle.live_fleet.proofs.Made.{Made, made-entry, made-next, made-none, made-then}
 
 -- ---- lists of which one place changed
 
@@ -74,12 +75,14 @@ pub record Adds (c : ℕ) (s : Talk Global) (told_now handed_now : List Notice) 
   pub fresh : List Notice
   pub once : told_now ++ left_of t c ≡ left_of s c ++ fresh
   pub made : notices s.world.history c ++ fresh ≡ handed_now ++ notices t.world.history c
+  pub numbers : Made c s.world.history t.world.history fresh
 
 adds_none : (c : ℕ) (s t : Talk Global) → left_of t c ≡ left_of s c → t.world.history ≡ s.world.history → Adds c s [] [] t
 adds_none c s t left history = record {
   fresh = [];
   once = left ∙ sym (append-nil (left_of s c));
   made = append-nil (notices s.world.history c) ∙ ap (λ (h : History Global). notices h c) (sym history);
+  numbers = made-none c s.world.history t.world.history history;
 }
 
 adds_same : (c : ℕ) (s t : Talk Global) → t ≡ s → Adds c s [] [] t
@@ -99,6 +102,7 @@ adds_then c s m t told_one told_two handed_one handed_two one two = record {
       sym (append_assoc (notices s.world.history c) one.fresh two.fresh)
       ∙ (ap (λ (l : List Notice). l ++ two.fresh) one.made
       ∙ (append_assoc handed_one (notices m.world.history c) two.fresh ∙ (ap (λ (l : List Notice). handed_one ++ l) two.made ∙ sym (append_assoc handed_one handed_two (notices t.world.history c)))));
+  numbers = made-then c s.world.history m.world.history t.world.history one.fresh two.fresh one.numbers two.numbers;
 }
 
 -- an entry was made
@@ -111,6 +115,7 @@ adds_entry c s t e world outlet inside =
       once =
           ap (λ (l : List Notice). l ++ mailbox t c) outlet ∙ (ap (λ (l : List Notice). (waiting s c).outlet ++ l) box ∙ sym (append_assoc (waiting s c).outlet (mailbox s c) (made.told h c e)));
       made = sym (notices-after h c e) ∙ ap (λ (w : World Global). notices w.history c) (sym world);
+      numbers = made-entry c h t.world.history e (ap (λ (w : World Global). w.history) world);
     }
 
 lists_kept : (c k : ℕ) (s t : Talk Global) (x : Waiting) → t.clients ≡ slice_set s.clients k x → x.outlet ≡ (waiting s k).outlet → (waiting t c).outlet ≡ (waiting s c).outlet
@@ -158,6 +163,7 @@ adds_told true c k s t n at known first clients world =
           ap (λ (l : List Notice). n ∷ (l ++ mailbox t c)) outlet
           ∙ (ap (λ (l : List Notice). n ∷ (drop 1 (waiting s c).outlet ++ l)) box ∙ (ap (λ (l : List Notice). l ++ mailbox s c) (sym (first_is (waiting s c).outlet n is)) ∙ sym (append-nil (left_of s c))));
       made = append-nil (notices s.world.history c) ∙ ap (λ (w : World Global). notices w.history c) (sym world);
+      numbers = made-none c s.world.history t.world.history (ap (λ (w : World Global). w.history) world);
     }
 adds_told false c k s t n at known first clients world =
     let other : c ≢ k = λ e. let good : (k == c) ≡ true = eq-eqb k c (sym e) in cc in
@@ -257,6 +263,7 @@ handed_adds c x s m is same = record {
   made =
       append-nil (notices s.world.history c)
       ∙ (ap (λ (y : ChapterView Global). notices y.history c) (sym is) ∙ (sym (append-nil (notices x.history c)) ∙ ap (λ (y : Talk Global). notices x.history c ++ notices y.world.history c) (sym same)));
+  numbers = made-next c s.world.history m.world.history (ap (λ (y : Talk Global). y.world.history) same);
 }
 
 pub runs-once : (whose : List Clients) (c : ℕ) (s : Talk Global) (acts : List Act) (t : Talk Global) → IsKnown s c → AllByRecursion (IsToldRight whose) acts → Runs s acts t → Adds c s (notices_told c acts) (notices_in c (chapters_of acts)) t

@@ -43,15 +43,15 @@ not-posted s t c order _ inside st other = absurd st
 pub was-posted : (s t : Talk Global) (c : ℕ) (order : Order) (reply : Reply) (n : ℕ) → TalkStep s (Post c order) reply t → reply ≡ Posted n → TalkStep s (Post c order) (Posted n) t
 was-posted s t c order reply n st is = subst (λ (r : Reply). TalkStep s (Post c order) r t) is st
 
-none_done : (a b : At) (acts : List Act) → acts ≡ [] → b.fleet.talk ≡ a.fleet.talk → b.fleet.met ≡ a.fleet.met → b.out ≡ a.out → Went a acts b
-none_done a b acts none talk met out =
-    subst (λ (l : List Act). Went a l b) (sym none) (subst (λ (x : At). Went a [] x) (sym (at-same a b talk met (ap (λ (o : Out). o.texts) out) (ap (λ (o : Out). o.chapters) out))) (went-none a))
+none_done : (a b : At) (acts : List Act) → acts ≡ [] → b.fleet.talk ≡ a.fleet.talk → b.fleet.met ≡ a.fleet.met → b.fleet.recalls ≡ a.fleet.recalls → b.out ≡ a.out → Went a acts b
+none_done a b acts none talk met recalls out =
+    subst (λ (l : List Act). Went a l b) (sym none) (subst (λ (x : At). Went a [] x) (sym (at-same a b talk met recalls (ap (λ (o : Out). o.texts) out) (ap (λ (o : Out). o.chapters) out))) (went-none a))
 
-pub posted-went : (client : ℕ) (order : Order) (posted : Result ℕ PostFault) (note new : Note) (a b : At) (acts : List Act) → IsPosted client order posted note new a.fleet.talk acts b.fleet.talk → b.fleet.met ≡ a.fleet.met → b.out ≡ a.out → Went a acts b
-posted-went client order posted note new a b acts (closed is fault none same stays) met out = none_done a b acts none same met out
-posted-went client order posted note new a b acts (spent is other few fault none same stays) met out = none_done a b acts none same met out
-posted-went client order posted note new a b acts (full is many fault one step stays) met out = subst (λ (l : List Act). Went a l b) (sym one) (went-did a b (Post client order) LaneFull step (met ∙ or_no a.fleet.met) out)
-posted-went client order posted note new a b acts (ok is many n number one step stays) met out = subst (λ (l : List Act). Went a l b) (sym one) (went-did a b (Post client order) (Posted n) step (met ∙ or_no a.fleet.met) out)
+pub posted-went : (client : ℕ) (order : Order) (posted : Result ℕ PostFault) (note new : Note) (a b : At) (acts : List Act) → IsPosted client order posted note new a.fleet.talk acts b.fleet.talk → b.fleet.met ≡ a.fleet.met → b.fleet.recalls ≡ a.fleet.recalls → b.out ≡ a.out → Went a acts b
+posted-went client order posted note new a b acts (closed is fault none same stays) met recalls out = none_done a b acts none same met recalls out
+posted-went client order posted note new a b acts (spent is other few fault none same stays) met recalls out = none_done a b acts none same met recalls out
+posted-went client order posted note new a b acts (full is many fault one step stays) met recalls out = subst (λ (l : List Act). Went a l b) (sym one) (went-did a b (Post client order) LaneFull step (met ∙ or_no a.fleet.met) recalls out)
+posted-went client order posted note new a b acts (ok is many n number one step stays) met recalls out = subst (λ (l : List Act). Went a l b) (sym one) (went-did a b (Post client order) (Posted n) step (met ∙ or_no a.fleet.met) recalls out)
 
 -- ---- a post that is answered and judged
 
@@ -70,9 +70,9 @@ settles-not (Ok n) s is = is_true is
 settles-not (Err fault) s is = ([], (refl, refl))
 
 pub posts-of : (k : ℕ) (sp : Speaker) (mark : Option (List ℕ)) (client : ℕ) (order : Order) (posted : Result ℕ PostFault) (note new : Note) (s one two t : Stage) (first : List Act) → slice_get s.notes client ≡ Some note
-    → IsPosted client order posted note new s.at.fleet.talk first one.at.fleet.talk → one.at.fleet.met ≡ s.at.fleet.met → one.at.out ≡ s.at.out → one ≡ record s { at = one.at; notes = slice_set s.notes client new }
+    → IsPosted client order posted note new s.at.fleet.talk first one.at.fleet.talk → one.at.fleet.met ≡ s.at.fleet.met → one.at.fleet.recalls ≡ s.at.fleet.recalls → one.at.out ≡ s.at.out → one ≡ record s { at = one.at; notes = slice_set s.notes client new }
     → ((acts : List Act) × Answers k sp (marked mark (post_text client posted)) one acts two) → ((acts : List Act) × SettlesIf posted two acts t) → (acts : List Act) × Posts k sp mark client order s acts t
-posts-of k sp mark client order posted note new s one two t first known is met out same (second, answers) (third, settles) = (
+posts-of k sp mark client order posted note new s one two t first known is met recalls out same (second, answers) (third, settles) = (
   first ++ (second ++ third),
   record {
     posted = posted;
@@ -82,7 +82,7 @@ posts-of k sp mark client order posted note new s one two t first known is met o
     first = first;
     one = one;
     is = is;
-    went = posted-went client order posted note new s.at one.at first is met out;
+    went = posted-went client order posted note new s.at one.at first is met recalls out;
     same = same;
     second = second;
     two = two;
@@ -95,11 +95,11 @@ posts-of k sp mark client order posted note new s one two t first known is met o
 
 -- the same, from what each call says
 pub posts-from : (k : ℕ) (sp : Speaker) (mark : Option (List ℕ)) (client : ℕ) (order : Order) (text line : List ℕ) (said : Bool) (note new : Note) (s one two t : Stage) → client < length s.notes → note ≡ get_or s.notes client note
-    → ((posted : Result ℕ PostFault) × (acts : List Act) × IsPosted client order posted note new s.at.fleet.talk acts one.at.fleet.talk × (text ≡ post_text client posted) × (said ≡ is_ok posted)) → one.at.fleet.met ≡ s.at.fleet.met → one.at.out ≡ s.at.out
+    → ((posted : Result ℕ PostFault) × (acts : List Act) × IsPosted client order posted note new s.at.fleet.talk acts one.at.fleet.talk × (text ≡ post_text client posted) × (said ≡ is_ok posted)) → one.at.fleet.met ≡ s.at.fleet.met → one.at.fleet.recalls ≡ s.at.fleet.recalls → one.at.out ≡ s.at.out
     → one ≡ record s { at = one.at; notes = slice_set s.notes client new } → line ≡ text → ((acts : List Act) × Answers k sp (marked mark line) one acts two)
     → ((posted : Result ℕ PostFault) → said ≡ is_ok posted → (acts : List Act) × SettlesIf posted two acts t) → (acts : List Act) × Posts k sp mark client order s acts t
-posts-from k sp mark client order text line said note new s one two t inside at (posted, first, is, told, good) met out same shown answers settles =
-    posts-of k sp mark client order posted note new s one two t first (slice_get_read s.notes (length s.notes) client note refl inside at) is met out same
+posts-from k sp mark client order text line said note new s one two t inside at (posted, first, is, told, good) met recalls out same shown answers settles =
+    posts-of k sp mark client order posted note new s one two t first (slice_get_read s.notes (length s.notes) client note refl inside at) is met recalls out same
     (answered-as k sp (marked mark line) (marked mark (post_text client posted)) one two (ap (marked mark) (shown ∙ told)) answers) (settles posted good)
 
 -- the numbers are not spent

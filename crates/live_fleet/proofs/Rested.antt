@@ -4,7 +4,6 @@ use Rattle.std.proofs.lemmas.Option.{slice_get_read}
 use Rattle.std.specs.Prelude.{MatchBool, OnOk, ◌==◌, slice_get, slice_set, if◌then◌else◌}
 use Rattle.std.specs.declared.alloc.Global.{Global}
 use Rattle.fleet_history.specs.History.{clock}
-use Rattle.fleet_talk.specs.Fleet.{Fleet}
 use Rattle.fleet_text.specs.Answers.{ended_line}
 use Rattle.fleet_world.specs.declared.reply.Reply.{Reply}
 use Rattle.live_fleet.specs.declared.rest.Rest.{Rest}

@@ -16,61 +16,73 @@ use Rattle.fleet_world.specs.declared.reply.Reply.TheVariants.{Took, LaneEmpty, 
 use Rattle.fleet_world.specs.Talk.{Talk, TalkStep, next_talk, waiting}
 use Rattle.fleet_talk.specs.Acts.{NeedsRoom}
 use Rattle.fleet_talk.specs.Chapters.{ChapterView, IsSound, chapter_in, chapter_shown}
-use Rattle.fleet_talk.specs.Fleet.{Fleet}
+use Rattle.live_parts.specs.Recalls.{Recalls}
 use Rattle.live_fleet.proofs.Rolling.{needed}
 use Rattle.live_fleet.specs.Act.{Act, Runs, did, full, handed}
 use Rattle.live_fleet.specs.Out.{Out}
 use Rattle.live_fleet.specs.Stepping.{HandsOut, HandsOver, IsLast, StepsOn, here, next, wants_room}
 use Rattle.live_fleet.specs.Taking.{AllTaken, HasNoOrder, IsTaking, TakesOne, is_took}
-use Rattle.live_fleet.specs.Went.{At, Went}
+use Rattle.live_fleet.specs.Went.{At, FleetView, Went}
 use Rattle.live_fleet.proofs.Going.{went-did, went-full, went-handed, went-none, went-then}
 use Rattle.live_fleet.proofs.Parts.{all-then, nothing-in}
 
-at_with : Talk Global → Bool → List (List ℕ) → List (ChapterView Global) → At
-at_with talk met texts chapters = record { fleet = record { talk = talk; met = met }; out = record { texts = texts; chapters = chapters } }
+fleet_with : Talk Global → Bool → Recalls → FleetView
+fleet_with talk met recalls = record { talk = talk; met = met; recalls = recalls }
 
-pub at-same : (a b : At) → b.fleet.talk ≡ a.fleet.talk → b.fleet.met ≡ a.fleet.met → b.out.texts ≡ a.out.texts → b.out.chapters ≡ a.out.chapters → b ≡ a
+fleet_same : (a b : FleetView) → b.talk ≡ a.talk → b.met ≡ a.met → b.recalls ≡ a.recalls → b ≡ a
+unfolding fleet_with
+fleet_same a b t m r =
+    let one : fleet_with b.talk b.met b.recalls ≡ fleet_with a.talk b.met b.recalls = ap (λ (v : Talk Global). fleet_with v b.met b.recalls) t in
+    let two : fleet_with a.talk b.met b.recalls ≡ fleet_with a.talk a.met b.recalls = ap (λ v. fleet_with a.talk v b.recalls) m in
+    one ∙ (two ∙ ap (λ (v : Recalls). fleet_with a.talk a.met v) r)
+
+at_with : FleetView → List (List ℕ) → List (ChapterView Global) → At
+at_with fleet texts chapters = record { fleet = fleet; out = record { texts = texts; chapters = chapters } }
+
+at_of_parts : (a b : At) → b.fleet ≡ a.fleet → b.out.texts ≡ a.out.texts → b.out.chapters ≡ a.out.chapters → b ≡ a
 unfolding at_with
-at-same a b t m x c =
-    let one : at_with b.fleet.talk b.fleet.met b.out.texts b.out.chapters ≡ at_with a.fleet.talk b.fleet.met b.out.texts b.out.chapters = ap (λ (v : Talk Global). at_with v b.fleet.met b.out.texts b.out.chapters) t in
-    let two : at_with a.fleet.talk b.fleet.met b.out.texts b.out.chapters ≡ at_with a.fleet.talk a.fleet.met b.out.texts b.out.chapters = ap (λ v. at_with a.fleet.talk v b.out.texts b.out.chapters) m in
-    let three : at_with a.fleet.talk a.fleet.met b.out.texts b.out.chapters ≡ at_with a.fleet.talk a.fleet.met a.out.texts b.out.chapters = ap (λ v. at_with a.fleet.talk a.fleet.met v b.out.chapters) x in
-    one ∙ (two ∙ (three ∙ ap (λ v. at_with a.fleet.talk a.fleet.met a.out.texts v) c))
+at_of_parts a b f x c =
+    let one : at_with b.fleet b.out.texts b.out.chapters ≡ at_with a.fleet b.out.texts b.out.chapters = ap (λ (v : FleetView). at_with v b.out.texts b.out.chapters) f in
+    let two : at_with a.fleet b.out.texts b.out.chapters ≡ at_with a.fleet a.out.texts b.out.chapters = ap (λ v. at_with a.fleet v b.out.chapters) x in
+    one ∙ (two ∙ ap (λ v. at_with a.fleet a.out.texts v) c)
 
-pub hands-out : (a b : At) (is : Bool) (chapters : List (ChapterView Global)) → chapters ≡ a.out.chapters → HandsOver a.fleet.talk chapters is b.fleet.talk b.out.chapters → b.fleet.met ≡ a.fleet.met → b.out.texts ≡ a.out.texts
+pub at-same : (a b : At) → b.fleet.talk ≡ a.fleet.talk → b.fleet.met ≡ a.fleet.met → b.fleet.recalls ≡ a.fleet.recalls → b.out.texts ≡ a.out.texts → b.out.chapters ≡ a.out.chapters → b ≡ a
+at-same a b t m r x c = at_of_parts a b (fleet_same a.fleet b.fleet t m r) x c
+
+pub hands-out : (a b : At) (is : Bool) (chapters : List (ChapterView Global)) → chapters ≡ a.out.chapters → HandsOver a.fleet.talk chapters is b.fleet.talk b.out.chapters → b.fleet.met ≡ a.fleet.met → b.fleet.recalls ≡ a.fleet.recalls → b.out.texts ≡ a.out.texts
     → (acts : List Act) × HandsOut a is acts b
-hands-out a b true chapters same (sound, follows, grown) met texts =
-    (handed (chapter_in a.fleet.talk.world) ∷ [], (refl, went-handed a b sound follows met texts (grown ∙ ap (λ (l : List (ChapterView Global)). l ++ chapter_in a.fleet.talk.world ∷ []) same)))
-hands-out a b false chapters same (last, stays, kept) met texts = ([], (last, refl, at-same a b stays met texts (kept ∙ same)))
+hands-out a b true chapters same (sound, follows, grown) met recalls texts =
+    (handed (chapter_in a.fleet.talk.world) ∷ [], (refl, went-handed a b sound follows met recalls texts (grown ∙ ap (λ (l : List (ChapterView Global)). l ++ chapter_in a.fleet.talk.world ∷ []) same)))
+hands-out a b false chapters same (last, stays, kept) met recalls texts = ([], (last, refl, at-same a b stays met recalls texts (kept ∙ same)))
 
 -- ---- events
 
-pub steps-here : (a b : At) (e : Event) (reply : Reply) → TalkStep a.fleet.talk e reply b.fleet.talk → b.fleet.met ≡ (a.fleet.met || is_limit_met reply) → b.out ≡ a.out → wants_room reply ≡ false
+pub steps-here : (a b : At) (e : Event) (reply : Reply) → TalkStep a.fleet.talk e reply b.fleet.talk → b.fleet.met ≡ (a.fleet.met || is_limit_met reply) → b.fleet.recalls ≡ a.fleet.recalls → b.out ≡ a.out → wants_room reply ≡ false
     → (acts : List Act) × StepsOn e reply a acts b
-steps-here a b e reply step met same other = (did e reply ∷ [], here refl (λ wants. absurd (let bad : false ≡ true = sym other ∙ wants in cc)) (went-did a b e reply step met same))
+steps-here a b e reply step met recalls same other = (did e reply ∷ [], here refl (λ wants. absurd (let bad : false ≡ true = sym other ∙ wants in cc)) (went-did a b e reply step met recalls same))
 
 -- the chapter was the last
-pub steps-last : (a m b : At) (e : Event) (reply : Reply) → TalkStep a.fleet.talk e reply m.fleet.talk → m.fleet.met ≡ a.fleet.met → wants_room reply ≡ true → ((none : List Act) × HandsOut m false none b) → (c : At) → c.fleet.talk ≡ b.fleet.talk → c.fleet.met ≡ (b.fleet.met || is_limit_met reply)
-    → c.out ≡ b.out → m.out ≡ a.out → (acts : List Act) × StepsOn e reply a acts c
-steps-last a m b e reply step met wants (none, (last, is_none, stays)) c talk limited out same =
+pub steps-last : (a m b : At) (e : Event) (reply : Reply) → TalkStep a.fleet.talk e reply m.fleet.talk → m.fleet.met ≡ a.fleet.met → m.fleet.recalls ≡ a.fleet.recalls → wants_room reply ≡ true → ((none : List Act) × HandsOut m false none b) → (c : At) → c.fleet.talk ≡ b.fleet.talk
+    → c.fleet.met ≡ (b.fleet.met || is_limit_met reply) → c.fleet.recalls ≡ b.fleet.recalls → c.out ≡ b.out → m.out ≡ a.out → (acts : List Act) × StepsOn e reply a acts c
+steps-last a m b e reply step met recalls wants (none, (last, is_none, stays)) c talk limited kept out same =
     let found = needed a.fleet.talk m.fleet.talk e reply step wants in
     let there : c.fleet.talk ≡ m.fleet.talk = talk ∙ ap (λ (x : At). x.fleet.talk) stays in (
       did e reply ∷ [],
       here refl (λ _. subst (λ (x : Talk Global). IsLast x.world) found.1 last)
           (went-did a c e reply (subst (λ (x : Talk Global). TalkStep a.fleet.talk e reply x) (sym there) step)
-          (limited ∙ ap (λ v. v || is_limit_met reply) (ap (λ (x : At). x.fleet.met) stays ∙ met)) (out ∙ (ap (λ (x : At). x.out) stays ∙ same))),
+          (limited ∙ ap (λ v. v || is_limit_met reply) (ap (λ (x : At). x.fleet.met) stays ∙ met)) (kept ∙ (ap (λ (x : At). x.fleet.recalls) stays ∙ recalls)) (out ∙ (ap (λ (x : At). x.out) stays ∙ same))),
     )
 
 -- the event was done in the next chapter
-pub steps-next : (a m n b : At) (e : Event) (first reply : Reply) → TalkStep a.fleet.talk e first m.fleet.talk → m.fleet.met ≡ a.fleet.met → m.out ≡ a.out → wants_room first ≡ true → ((one : List Act) × HandsOut m true one n)
-    → TalkStep n.fleet.talk e reply b.fleet.talk → b.fleet.met ≡ (n.fleet.met || is_limit_met reply) → b.out ≡ n.out → (acts : List Act) × StepsOn e reply a acts b
-steps-next a m n b e first reply step met same wants (one, (is, hands)) again limited out =
+pub steps-next : (a m n b : At) (e : Event) (first reply : Reply) → TalkStep a.fleet.talk e first m.fleet.talk → m.fleet.met ≡ a.fleet.met → m.fleet.recalls ≡ a.fleet.recalls → m.out ≡ a.out → wants_room first ≡ true → ((one : List Act) × HandsOut m true one n)
+    → TalkStep n.fleet.talk e reply b.fleet.talk → b.fleet.met ≡ (n.fleet.met || is_limit_met reply) → b.fleet.recalls ≡ n.fleet.recalls → b.out ≡ n.out → (acts : List Act) × StepsOn e reply a acts b
+steps-next a m n b e first reply step met recalls same wants (one, (is, hands)) again limited kept out =
     let found = needed a.fleet.talk m.fleet.talk e first step wants in
-    let at : m ≡ a = at-same a m found.1 met (ap (λ (o : Out). o.texts) same) (ap (λ (o : Out). o.chapters) same) in
+    let at : m ≡ a = at-same a m found.1 met recalls (ap (λ (o : Out). o.texts) same) (ap (λ (o : Out). o.chapters) same) in
     let handed_on : Went a (handed (chapter_in a.fleet.talk.world) ∷ []) n = subst (λ (x : At). Went x (handed (chapter_in x.fleet.talk.world) ∷ []) n) at (subst (λ (l : List Act). Went m l n) is hands) in (
       full e ∷ handed (chapter_in a.fleet.talk.world) ∷ did e reply ∷ [],
       next refl (went-then a a b (full e ∷ []) (handed (chapter_in a.fleet.talk.world) ∷ did e reply ∷ []) (went-full a e found.0)
-          (went-then a n b (handed (chapter_in a.fleet.talk.world) ∷ []) (did e reply ∷ []) handed_on (went-did n b e reply again limited out))),
+          (went-then a n b (handed (chapter_in a.fleet.talk.world) ∷ []) (did e reply ∷ []) handed_on (went-did n b e reply again limited kept out))),
     )
 
 pub steps-went : (e : Event) (reply : Reply) (a : At) (acts : List Act) (b : At) → StepsOn e reply a acts b → Went a acts b
@@ -154,19 +166,19 @@ taking-many client count most a b acts so enough = let many = so.many in record 
 shown_in : (s : Talk Global) (n : ℕ) (h : History Global) → n ≡ s.world.number → h ≡ s.world.history → record { number = n; history = h } ≡ chapter_in s.world
 shown_in s n h number history = rw (number, history) refl
 
-pub hands-over : (s t : Talk Global) (xs ys : List (Chapter Global)) (chapter : Chapter Global) → chapter.number ≡ s.world.number → history_of chapter ≡ s.world.history → IsSound s.world.floor s.world.history → t ≡ next_talk s → ys ≡ xs ++ chapter ∷ []
+pub hands-over : (s t : Talk Global) (xs ys : List (Chapter Global)) (chapter : Chapter Global) → chapter.number ≡ s.world.number → history_of chapter ≡ s.world.history → IsSound s.world.turns s.world.floor s.world.history → t ≡ next_talk s → ys ≡ xs ++ chapter ∷ []
     → HandsOver s (map chapter_shown xs) true t (map chapter_shown ys)
 hands-over s t xs ys chapter number history sound follows grown =
     (sound, follows, ap (map chapter_shown) grown ∙ (map-append chapter_shown xs (chapter ∷ []) ∙ ap (λ (c : ChapterView Global). map chapter_shown xs ++ c ∷ []) (shown_in s chapter.number (history_of chapter) number history)))
 
-pub hands-out-if : {E : Type 0} (r : Result Bool E) (a b : At) (chapters : List (ChapterView Global)) → chapters ≡ a.out.chapters → IfOk r (λ is. HandsOver a.fleet.talk chapters is b.fleet.talk b.out.chapters) → b.fleet.met ≡ a.fleet.met → b.out.texts ≡ a.out.texts
+pub hands-out-if : {E : Type 0} (r : Result Bool E) (a b : At) (chapters : List (ChapterView Global)) → chapters ≡ a.out.chapters → IfOk r (λ is. HandsOver a.fleet.talk chapters is b.fleet.talk b.out.chapters) → b.fleet.met ≡ a.fleet.met → b.fleet.recalls ≡ a.fleet.recalls → b.out.texts ≡ a.out.texts
     → IfOk r (λ is. (acts : List Act) × HandsOut a is acts b)
-hands-out-if r a b chapters same h met texts = IfOk-weaker r (λ is. HandsOver a.fleet.talk chapters is b.fleet.talk b.out.chapters) (λ is. (acts : List Act) × HandsOut a is acts b) (λ is over. hands-out a b is chapters same over met texts) h
+hands-out-if r a b chapters same h met recalls texts = IfOk-weaker r (λ is. HandsOver a.fleet.talk chapters is b.fleet.talk b.out.chapters) (λ is. (acts : List Act) × HandsOut a is acts b) (λ is over. hands-out a b is chapters same over met recalls texts) h
 
-pub steps-next-if : {E : Type 0} (r : Result Reply E) (a m n b : At) (e : Event) (first : Reply) → TalkStep a.fleet.talk e first m.fleet.talk → m.fleet.met ≡ a.fleet.met → m.out ≡ a.out → wants_room first ≡ true → ((one : List Act) × HandsOut m true one n)
-    → IfOk r (λ reply. TalkStep n.fleet.talk e reply b.fleet.talk) → IfOk r (λ reply. b.fleet.met ≡ (n.fleet.met || is_limit_met reply)) → b.out ≡ n.out → IfOk r (λ reply. (acts : List Act) × StepsOn e reply a acts b)
-steps-next-if (Ok reply) a m n b e first step met same wants hands again limited out = steps-next a m n b e first reply step met same wants hands again limited out
-steps-next-if (Err fault) a m n b e first step met same wants hands again limited out = tt
+pub steps-next-if : {E : Type 0} (r : Result Reply E) (a m n b : At) (e : Event) (first : Reply) → TalkStep a.fleet.talk e first m.fleet.talk → m.fleet.met ≡ a.fleet.met → m.fleet.recalls ≡ a.fleet.recalls → m.out ≡ a.out → wants_room first ≡ true → ((one : List Act) × HandsOut m true one n)
+    → IfOk r (λ reply. TalkStep n.fleet.talk e reply b.fleet.talk) → IfOk r (λ reply. b.fleet.met ≡ (n.fleet.met || is_limit_met reply)) → b.fleet.recalls ≡ n.fleet.recalls → b.out ≡ n.out → IfOk r (λ reply. (acts : List Act) × StepsOn e reply a acts b)
+steps-next-if (Ok reply) a m n b e first step met recalls same wants hands again limited kept out = steps-next a m n b e first reply step met recalls same wants hands again limited kept out
+steps-next-if (Err fault) a m n b e first step met recalls same wants hands again limited kept out = tt
 
 pub at-hand : (is : Bool) (a b : At) (P : Bool) → ((acts : List Act) × HandsOut a is acts b) → is ≡ P → (acts : List Act) × HandsOut a P acts b
 at-hand is a b P hands same = subst (λ x. (acts : List Act) × HandsOut a x acts b) same hands

@@ -13,6 +13,7 @@ use Rattle.fleet_text.specs.Output.{is_limit_met, notice_line, notice_text}
 use Rattle.fleet_world.specs.declared.reply.Reply.{Reply}
 use Rattle.fleet_world.specs.declared.reply.Reply.TheVariants.{Collected, Gave, NoClient, NothingPending, NothingThere, OutletFull}
 use Rattle.fleet_world.specs.Talk.{Talk, TalkStep, Waiting, mailbox, none_waiting, waiting, with_notice}
+use Rattle.live_parts.specs.Recalls.{Recalls, noted}
 use Rattle.live_fleet.specs.Act.{Act, did, told}
 use Rattle.live_fleet.specs.Out.{Out, Fits, IsFull, text_at, told_to}
 use Rattle.live_fleet.specs.Telling.{AllTold, FindsNothing, HasNoNotice, IsTelling, TellsClients, TellsNext, TellsOne, TellsWhere, collected_in}
@@ -88,12 +89,12 @@ tells-none to client a none = ([], record { went = went-none a; only = tt; comes
     comes (inl past) = inl past
     comes (inr (outlet, box)) = inr (nothing-in (waiting a.fleet.talk client).outlet outlet, inl (nothing-in (mailbox a.fleet.talk client) box))
 
-pub tells-all : (to client : ℕ) (a m b : At) (given reply : Reply) → length a.fleet.talk.clients ≡ clients a.fleet.talk.world.history → TalkStep a.fleet.talk (Give client) given m.fleet.talk → m.fleet.met ≡ a.fleet.met → m.out ≡ a.out
-    → TalkStep m.fleet.talk (Collect client) reply b.fleet.talk → b.fleet.met ≡ m.fleet.met → b.out ≡ m.out → collected_in reply ≡ None → (acts : List Act) × TellsNext to client came.All a acts b
-tells-all to client a m b given reply count give met same collect met2 same2 none =
+pub tells-all : (to client : ℕ) (a m b : At) (given reply : Reply) → length a.fleet.talk.clients ≡ clients a.fleet.talk.world.history → TalkStep a.fleet.talk (Give client) given m.fleet.talk → m.fleet.met ≡ a.fleet.met → m.fleet.recalls ≡ a.fleet.recalls → m.out ≡ a.out
+    → TalkStep m.fleet.talk (Collect client) reply b.fleet.talk → b.fleet.met ≡ m.fleet.met → b.fleet.recalls ≡ m.fleet.recalls → b.out ≡ m.out → collected_in reply ≡ None → (acts : List Act) × TellsNext to client came.All a acts b
+tells-all to client a m b given reply count give met recalls same collect met2 recalls2 same2 none =
     let e = empty m.fleet.talk b.fleet.talk client reply collect none in
-    let first = went-did a m (Give client) given give (met ∙ (or_no a.fleet.met ∙ ap (λ v. a.fleet.met || v) (sym (give_met a.fleet.talk m.fleet.talk client given give)))) same in
-    let rest = went-did m b (Collect client) reply collect (met2 ∙ (or_no m.fleet.met ∙ ap (λ v. m.fleet.met || v) (sym e.met))) same2 in (
+    let first = went-did a m (Give client) given give (met ∙ (or_no a.fleet.met ∙ ap (λ v. a.fleet.met || v) (sym (give_met a.fleet.talk m.fleet.talk client given give)))) recalls same in
+    let rest = went-did m b (Collect client) reply collect (met2 ∙ (or_no m.fleet.met ∙ ap (λ v. m.fleet.met || v) (sym e.met))) recalls2 same2 in (
       did (Give client) given ∷ did (Collect client) reply ∷ [],
       record {
         went = went-then a m b (did (Give client) given ∷ []) (did (Collect client) reply ∷ []) first rest;
@@ -126,12 +127,14 @@ line_some client notice =
     omega (arith, sum, one)
 
 pub tells-one : (to client : ℕ) (a m n b : At) (given : Reply) (notice : Notice) → to < length a.out.texts → length (text_at a.out to) + 256 ≤ 65536 → length (notice_line client notice) ≤ 256
-    → TalkStep a.fleet.talk (Give client) given m.fleet.talk → m.fleet.met ≡ a.fleet.met → m.out ≡ a.out → TalkStep m.fleet.talk (Collect client) (Collected notice) b.fleet.talk → b.fleet.met ≡ a.fleet.met
+    → TalkStep a.fleet.talk (Give client) given m.fleet.talk → m.fleet.met ≡ a.fleet.met → m.fleet.recalls ≡ a.fleet.recalls → m.out ≡ a.out → TalkStep m.fleet.talk (Collect client) (Collected notice) b.fleet.talk → b.fleet.met ≡ a.fleet.met
+    → b.fleet.recalls ≡ noted client notice a.fleet.recalls
     → b.out.texts ≡ slice_set a.out.texts to (text_at a.out to ++ notice_line client notice) → b.out.chapters ≡ a.out.chapters → (acts : List Act) × TellsNext to client came.One a acts b
-tells-one to client a m n b given notice inside room short give met same collect limited texts chapters =
-    let first = went-did a m (Give client) given give (met ∙ (or_no a.fleet.met ∙ ap (λ v. a.fleet.met || v) (sym (give_met a.fleet.talk m.fleet.talk client given give)))) same in
+tells-one to client a m n b given notice inside room short give met recalls same collect limited kept texts chapters =
+    let first = went-did a m (Give client) given give (met ∙ (or_no a.fleet.met ∙ ap (λ v. a.fleet.met || v) (sym (give_met a.fleet.talk m.fleet.talk client given give)))) recalls same in
     let fits : length (text_at a.out to) + length (notice_line client notice) ≤ 65536 = omega (arith, room, short) in
     let rest = went-told m b to client notice (subst (λ (o : Out). to < length o.texts) (sym same) inside) (subst (λ (o : Out). Fits (text_at o to) (length (notice_line client notice))) (sym same) (inl fits)) collect (limited ∙ sym met)
+    (kept ∙ ap (λ (r : Recalls). noted client notice r) (sym recalls))
     (subst (λ (o : Out). b.out.texts ≡ slice_set o.texts to (text_at o to ++ notice_line client notice)) (sym same) texts) (subst (λ (o : Out). b.out.chapters ≡ o.chapters) (sym same) chapters) in
     let some = line_some client notice in
     let grown : text_at b.out to ≡ text_at a.out to ++ notice_line client notice = ap (λ (t : List (List ℕ)). slice_index_or t to []) texts ∙ get_or-set_same a.out.texts to (text_at a.out to ++ notice_line client notice) [] inside in

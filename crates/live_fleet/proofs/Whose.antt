@@ -141,6 +141,10 @@ obeys_right whose k sp line (demand.NoRoom client) s acts t at own hears =
     if_own_right whose (is_own sp.clients s.clients client) _ k sp line.mark client s acts t at own (λ answers. answers_right whose k sp _ s acts t at own answers) hears
 obeys_right whose k sp line (demand.Open client) s acts t at own hears =
     if_own_right whose (is_own sp.clients s.clients client) _ k sp line.mark client s acts t at own (λ opens. opens_right whose k sp line.mark client s acts t at own opens) hears
+obeys_right whose k sp line (demand.Session client) s acts t at own hears =
+    if_own_right whose (is_own sp.clients s.clients client) _ k sp line.mark client s acts t at own (λ answers. answers_right whose k sp _ s acts t at own answers) hears
+obeys_right whose k sp line (demand.Since client seq) s acts t at own hears =
+    if_own_right whose (is_own sp.clients s.clients client) _ k sp line.mark client s acts t at own (λ answers. answers_right whose k sp _ s acts t at own answers) hears
 obeys_right whose k sp line (demand.Ask asked) s acts t at own grants = grants_right whose k sp line.mark asked s acts t at own grants
 obeys_right whose k sp line (demand.Watch on) s acts t at own answers =
     answers_right whose k (record sp { watching = on }) _ (with_speaker s k (record sp { watching = on })) acts t (kept_set whose s.speakers k (record sp { watching = on }) at own) own answers

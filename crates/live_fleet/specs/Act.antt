@@ -31,7 +31,7 @@ pub data Act : Type 0 where
 abbrev pub Acts : Talk Global → Act → Talk Global → Type 0
 Acts s (did e reply) t = TalkStep s e reply t
 Acts s (full e) t = NeedsRoom s e × (t ≡ s)
-Acts s (handed c) t = (c ≡ chapter_in s.world) × IsSound s.world.floor s.world.history × (t ≡ next_talk s)
+Acts s (handed c) t = (c ≡ chapter_in s.world) × IsSound s.world.turns s.world.floor s.world.history × (t ≡ next_talk s)
 Acts s (told to client notice) t = TalkStep s (Collect client) (Collected notice) t
 Acts s (said to text) t = t ≡ s
 Acts s (grew client extra) t = t ≡ talk_of (widened s.world client extra) s.clients

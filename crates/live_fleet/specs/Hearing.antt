@@ -22,6 +22,7 @@ use Rattle.live_fleet.specs.Asking.{Grants}
 use Rattle.live_fleet.specs.Ending.{Ends}
 use Rattle.live_fleet.specs.Party.{Stage, with_rest, with_speaker}
 use Rattle.live_fleet.specs.Posting.{Posts, SettlesAll}
+use Rattle.live_fleet.specs.Sessions.{mark_len, session_line, since_text, standing_at}
 
 -- whether a conversation that speaks for these speaks for a client, of those that there are
 abbrev pub is_own : Clients → ℕ → ℕ → Bool
@@ -57,12 +58,22 @@ HearsNoRoom k sp mark client s acts t = IfOwn (is_own sp.clients s.clients clien
 abbrev pub HearsOpen : ℕ → Speaker → Option (List ℕ) → ℕ → Stage → List Act → Stage → Type 0
 HearsOpen k sp mark client s acts t = IfOwn (is_own sp.clients s.clients client) (Opens k sp mark client s acts t) k sp mark client s acts t
 
+-- a client that comes again is told how far the fleet is with it
+abbrev pub HearsSession : ℕ → Speaker → Option (List ℕ) → ℕ → Stage → List Act → Stage → Type 0
+HearsSession k sp mark client s acts t = IfOwn (is_own sp.clients s.clients client) (Answers k sp (marked mark (session_line (standing_at s.notes s.at.fleet.recalls client))) s acts t) k sp mark client s acts t
+
+-- or once more what it was told after the notice of this number
+abbrev pub HearsSince : ℕ → Speaker → Option (List ℕ) → (client seq : ℕ) → Stage → List Act → Stage → Type 0
+HearsSince k sp mark client seq s acts t = IfOwn (is_own sp.clients s.clients client) (Answers k sp (marked mark (since_text s.at.fleet.recalls (mark_len mark) client seq)) s acts t) k sp mark client s acts t
+
 -- what is done at what a line asks
 abbrev pub Obeys : ℕ → Speaker → Line → Demand → Stage → List Act → Stage → Type 0
 Obeys k sp line demand.Nothing s acts t = (acts ≡ []) × (t ≡ s)
 Obeys k sp line (demand.Post client order) s acts t = HearsPost k sp line.mark client order s acts t
 Obeys k sp line (demand.NoRoom client) s acts t = HearsNoRoom k sp line.mark client s acts t
 Obeys k sp line (demand.Open client) s acts t = HearsOpen k sp line.mark client s acts t
+Obeys k sp line (demand.Session client) s acts t = HearsSession k sp line.mark client s acts t
+Obeys k sp line (demand.Since client seq) s acts t = HearsSince k sp line.mark client seq s acts t
 Obeys k sp line (demand.Ask wanted) s acts t = Grants k sp line.mark wanted s acts t
 Obeys k sp line (demand.Watch on) s acts t = Answers k (record sp { watching = on }) (marked line.mark (watch_line on)) (with_speaker s k (record sp { watching = on })) acts t
 Obeys k sp line demand.Quit s acts t = Ends s acts t

@@ -1,5 +1,5 @@
 -- What holds of a fleet of many conversations, whatever events it hears.
-use Rattle.std.specs.Prelude.{◌≡◌, ◌==◌, ℕ, ◌+◌, ◌≤◌, ◌<◌, ◌||◌, ◌⊎◌, Option, Some, List, [], ◌∷◌, ◌++◌, length, map, MatchOption, slice_get, if◌then◌else◌}
+use Rattle.std.specs.Prelude.{◌≡◌, ◌==◌, ℕ, ◌+◌, ◌≤◌, ◌<◌, ◌||◌, ◌⊎◌, Option, Some, None, List, [], ◌∷◌, ◌++◌, length, map, MatchOption, slice_get, if◌then◌else◌}
 use Rattle.std.specs.List.{AllByRecursion, flat_map, range_with_len}
 use Rattle.std.specs.declared.alloc.Global.{Global}
 use Rattle.fleet_book.specs.declared.event.Event.TheVariants.{Collect}
@@ -8,16 +8,18 @@ use Rattle.fleet_book.specs.declared.notice.Notice.{Notice}
 use Rattle.fleet_grid.specs.Floor.{Floor}
 use Rattle.fleet_bound.specs.Bound.{KeepsBound, WaitsAreBounded}
 use Rattle.fleet_bound.specs.Roomy.{AdvancesIfRoomy, AreRoomy}
+use Rattle.fleet_core.specs.Core.{ServesInTurns}
+use Rattle.turns_law.specs.Turns.{Turns}
 use Rattle.fleet_history.specs.History.{History, clients, start}
 use Rattle.fleet_history.specs.Laws.{AcceptsNoneClosed, ArrivalsRise, ArrivesInOrder, HasNoConflict}
-use Rattle.fleet_history.specs.Notices.{notices}
-use Rattle.fleet_history.specs.Numbering.{AreNumbered}
+use Rattle.fleet_history.specs.Notices.{noticed_count, notices, seq_of}
+use Rattle.fleet_history.specs.Numbering.{AreNumbered, numbers_behind}
 use Rattle.fleet_core.specs.declared.open_errands.OpenErrand.{OpenErrand}
 use Rattle.fleet_talk.specs.Chapters.{AreTurned, ChapterView, beginning}
-use Rattle.fleet_talk.specs.Fleet.{Fleet}
 use Rattle.fleet_talk.specs.Says.{marked}
 use Rattle.fleet_text.specs.Answers.{open_text}
 use Rattle.fleet_world.specs.Talk.{Talk, mailbox, waiting}
+use Rattle.live_parts.specs.Recalls.{Recalls, last_of, recall_of}
 use Rattle.live_fleet.specs.declared.rest.Rest.TheVariants.{Ended, Ending}
 use Rattle.live_fleet.specs.declared.speaker.Clients.{Clients}
 use Rattle.live_fleet.specs.declared.speaker.Speaker.{Speaker}
@@ -25,15 +27,17 @@ use Rattle.live_fleet.specs.Act.{Act, Runs, did, met_by, said, told}
 use Rattle.live_fleet.specs.Does.{Does, Plays, PlaysUnread}
 use Rattle.live_fleet.specs.Out.{chapters_of}
 use Rattle.live_fleet.specs.Party.{Heard, Stage, turn}
+use Rattle.live_fleet.specs.Recalling.{AreBegun, IsRecalled, noted_by}
 use Rattle.live_fleet.specs.Resting.{GoesOn, line_listed}
 use Rattle.live_fleet.specs.Telling.{FindsNothing}
 use Rattle.live_fleet.specs.Turning.{place_line}
-use Rattle.live_fleet.specs.Went.{Went}
+use Rattle.live_fleet.specs.Went.{FleetView, Went}
 
--- acts that are a run of the core, which met a limit if one of them did
-pub record IsRun (a : Fleet Global) (acts : List Act) (b : Fleet Global) : Type 0 where
+-- acts that are a run of the core, which met a limit if one of them did; and what they tell is kept
+pub record IsRun (a : FleetView) (acts : List Act) (b : FleetView) : Type 0 where
   pub runs : Runs a.talk acts b.talk
   pub met : b.met ≡ (a.met || met_by acts)
+  pub recalls : b.recalls ≡ noted_by acts a.recalls
 
 -- Whatever readers take in between, its acts are such; where they take nothing, what each conversation was told and the chapters that were handed out are what the acts say too
 abbrev pub EachGoesOn : Type 0
@@ -44,20 +48,22 @@ abbrev pub EachFollows : Type 0
 EachFollows = (s t : Stage) (events : List Heard) (acts : List Act) → Plays s events acts t → AreTurned (beginning s.at.fleet.talk.world) (chapters_of acts) (beginning t.at.fleet.talk.world)
 
 -- A history in which no step has a conflict, each robot's arrivals are the beginning of its accepted errands, the numbers of a client's arrivals rise, nothing is accepted after a close, and each
--- client's notices are numbered one after another; where all errands go to roomy cells each tick is advancing, and each wait below the bound if the opening's waits leave room for it
-pub record IsSafe (m : Floor) (h : History Global) : Type 0 where
+-- client's notices are numbered one after another. Without turns, where all errands go to roomy cells each tick is advancing, and each wait below the bound if the opening's waits leave room for it; in turns, waits for served
+-- errands are bounded
+pub record IsSafe (turns : Option Turns) (m : Floor) (h : History Global) : Type 0 where
   pub conflicts : HasNoConflict m h
   pub arrivals : ArrivesInOrder h
   pub rise : ArrivalsRise h
   pub closes : AcceptsNoneClosed h
   pub numbered : (c : ℕ) → AreNumbered h c
-  pub advancing : AdvancesIfRoomy m h
-  pub bounded : AreRoomy m h → KeepsBound m (start h.opening) → WaitsAreBounded m h
+  pub advancing : turns ≡ None → AdvancesIfRoomy m h
+  pub bounded : turns ≡ None → AreRoomy m h → KeepsBound m (start h.opening) → WaitsAreBounded m h
+  pub served : ServesInTurns turns m h
 
 -- so is each history that was handed out, on the map of the fleet
 abbrev pub EachIsSafe : Type 0
 EachIsSafe =
-    (s t : Stage) (events : List Heard) (acts : List Act) → Plays s events acts t → AllByRecursion (λ x. IsSafe s.at.fleet.talk.world.floor x.history) (chapters_of acts)
+    (s t : Stage) (events : List Heard) (acts : List Act) → Plays s events acts t → AllByRecursion (λ x. IsSafe s.at.fleet.talk.world.turns s.at.fleet.talk.world.floor x.history) (chapters_of acts)
 
 -- ---- notices
 
@@ -104,6 +110,37 @@ abbrev pub EachIsToldOnce : Type 0
 EachIsToldOnce =
     (s t : Stage) (events : List Heard) (acts : List Act) → Plays s events acts t → (c : ℕ) → IsKnown s.at.fleet.talk c → s.at.fleet.talk.world.history.entries ≡ []
     → notices_told c acts ++ left_of t.at.fleet.talk c ≡ left_of s.at.fleet.talk c ++ (notices_in c (chapters_of acts) ++ notices t.at.fleet.talk.world.history c)
+
+-- ---- what can be told again
+
+-- the number of the last of these notices; this one, if there are none
+abbrev pub last_seq : ℕ → List Notice → ℕ
+last_seq n [] = n
+last_seq n (x ∷ xs) = last_seq (seq_of x) xs
+
+-- What can be told a client again is the last of what could be before, and of what it was told since, in order. How many it was told is the number of the last one
+pub record AreKept (c : ℕ) (r : Recalls) (since : List Notice) (t : Recalls) : Type 0 where
+  pub kept : (recall_of t c).notices ≡ last_of r.most ((recall_of r c).notices ++ since)
+  pub count : (recall_of t c).told ≡ last_seq (recall_of r c).told since
+
+-- so it is, whatever a fleet hears
+abbrev pub EachIsKept : Type 0
+EachIsKept = (s t : Stage) (events : List Heard) (acts : List Act) → Plays s events acts t → (c : ℕ) → IsRecalled s.at.fleet.recalls c → AreKept c s.at.fleet.recalls (notices_told c acts) t.at.fleet.recalls
+
+-- the notices that wait for a client are numbered on from those that it was told, to the last that was made
+pub record AreNumberedOn (c : ℕ) (f : FleetView) : Type 0 where
+  pub seqs : map seq_of (left_of f.talk c) ≡ numbers_behind (recall_of f.recalls c).told (length (left_of f.talk c))
+  pub all : (recall_of f.recalls c).told + length (left_of f.talk c) ≡ noticed_count f.talk.world.history c
+
+-- it stays so, and so many more were told as notices were
+abbrev pub EachIsCounted : Type 0
+EachIsCounted =
+    (s t : Stage) (events : List Heard) (acts : List Act) → Plays s events acts t → (c : ℕ) → IsKnown s.at.fleet.talk c → IsRecalled s.at.fleet.recalls c → c < clients s.at.fleet.talk.world.history → AreNumberedOn c s.at.fleet
+    → AreNumberedOn c t.at.fleet × ((recall_of t.at.fleet.recalls c).told ≡ (recall_of s.at.fleet.recalls c).told + length (notices_told c acts))
+
+-- so it is at the beginning, where nothing waits
+abbrev pub EachBeginsCounted : Type 0
+EachBeginsCounted = (f : FleetView) (r : Recalls) (c : ℕ) → f.talk.world.history.entries ≡ [] → left_of f.talk c ≡ [] → c < clients f.talk.world.history → AreBegun f.talk.world.history r f.recalls → AreNumberedOn c f
 
 -- ---- turns
 

@@ -1,5 +1,6 @@
 pub mod Act
 pub mod Out
+pub mod Recalling
 pub mod Went
 pub mod Stepping
 pub mod Open
@@ -12,6 +13,7 @@ pub mod Answering
 pub mod Ending
 pub mod Posting
 pub mod Asking
+pub mod Sessions
 pub mod Hearing
 pub mod Resting
 pub mod Does

@@ -26,7 +26,7 @@ IsLast w = w.number + 1 ≡ w.limits.chapters
 
 -- the chapter joined these, or it was the last
 abbrev pub HandsOver : Talk Global → List (ChapterView Global) → Bool → Talk Global → List (ChapterView Global) → Type 0
-HandsOver s before true t after = IsSound s.world.floor s.world.history × (t ≡ next_talk s) × (after ≡ before ++ chapter_in s.world ∷ [])
+HandsOver s before true t after = IsSound s.world.turns s.world.floor s.world.history × (t ≡ next_talk s) × (after ≡ before ++ chapter_in s.world ∷ [])
 HandsOver s before false t after = IsLast s.world × (t ≡ s) × (after ≡ before)
 
 -- the chapter was handed out, or it was the last

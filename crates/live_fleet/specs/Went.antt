@@ -1,25 +1,34 @@
 -- How a fleet, and what it says, goes on.
-use Rattle.std.specs.Prelude.{◌≡◌, ℕ, ◌||◌, List, [], ◌∷◌, ◌++◌, length}
+use Rattle.std.specs.Prelude.{◌≡◌, ℕ, Bool, ◌||◌, List, [], ◌∷◌, ◌++◌, length}
 use Rattle.std.specs.declared.alloc.Global.{Global}
-use Rattle.fleet_talk.specs.Fleet.{Fleet}
 use Rattle.fleet_world.specs.Keeps.{talk}
+use Rattle.fleet_world.specs.Talk.{Talk}
+use Rattle.live_parts.specs.Recalls.{Recalls}
 use Rattle.live_fleet.specs.declared.open_fleet.OpenFleet.{OpenFleet}
 use Rattle.live_fleet.specs.declared.outboxes.Outboxes.{Outboxes}
 use Rattle.live_fleet.specs.Act.{Act, Runs, met_by}
 use Rattle.live_fleet.specs.Out.{Out, IsWithin, chapters_of, out_of, text_at, told_to}
+use Rattle.live_fleet.specs.Recalling.{noted_by}
+
+-- an open fleet without where its lists lie in memory: its core and lists, whether a limit was met, and what can be told again
+pub record FleetView : Type 0 where
+  pub talk : Talk Global
+  pub met : Bool
+  pub recalls : Recalls
 
 -- a fleet, and what was said and handed out
 pub record At : Type 0 where
-  pub fleet : Fleet Global
+  pub fleet : FleetView
   pub out : Out
 
 abbrev pub at_of : {f g h : Type 0} {F : f → Type 0} {G : g → Type 0} {H : h → Type 0} {k l m : _} → OpenFleet f g h F G H k l m → Outboxes → At
-at_of f o = record { fleet = record { talk = talk f.session; met = f.limited }; out = out_of o }
+at_of f o = record { fleet = record { talk = talk f.session; met = f.limited; recalls = f.recalls }; out = out_of o }
 
--- these acts were done: a run of the core, its chapters, and what each conversation was told
+-- these acts were done: a run of the core, its chapters, what each conversation was told, and what of that is kept to be told again
 pub record Went (a : At) (acts : List Act) (b : At) : Type 0 where
   pub runs : Runs a.fleet.talk acts b.fleet.talk
   pub met : b.fleet.met ≡ (a.fleet.met || met_by acts)
+  pub recalls : b.fleet.recalls ≡ noted_by acts a.fleet.recalls
   pub count : length b.out.texts ≡ length a.out.texts
   pub tells : (k : ℕ) → text_at b.out k ≡ text_at a.out k ++ told_to k acts
   pub hands : b.out.chapters ≡ a.out.chapters ++ chapters_of acts

@@ -69,7 +69,7 @@ impl Party {
     }
 
     /// Whether a conversation speaks for a client that there is.
-    fn is_own(&self, to: usize, client: u32) -> bool
+    pub(crate) fn is_own(&self, to: usize, client: u32) -> bool
         requires { to < vec_len self.now.speakers }
         ensures own { (sp : Speaker) → slice_get self.now.speakers.items to ≡ Some sp → result ≡ is_own sp.clients self.now.clients client }
         ensures there { result ≡ true → client < self.now.clients }
@@ -78,7 +78,7 @@ impl Party {
     }
 
     /// Answers that there is no such client here.
-    fn refuse_client(
+    pub(crate) fn refuse_client(
         &mut self,
         alloc: Global,
         out: &mut Outboxes,
@@ -260,6 +260,8 @@ impl Party {
             Demand::Post(client, order) => self.hear_post(rt, out, place, client, order),
             Demand::NoRoom(client) => self.hear_no_room(rt.alloc(), out, place, client),
             Demand::Open(client) => self.hear_open(rt, out, place, client),
+            Demand::Session(client) => self.hear_session(rt.alloc(), out, place, client),
+            Demand::Since(client, seq) => self.hear_since(rt.alloc(), out, place, client, seq),
             Demand::Ask(wanted) => self.ask(rt, out, place, wanted),
             Demand::Watch(on) => self.hear_watch(rt.alloc(), out, place, on),
             Demand::Quit => self.end(rt, out),

@@ -1,6 +1,6 @@
 //! What holds of a fleet of many conversations, whatever it hears. The body of a law is empty: its contract is the law.
 
-ghost use Rattle.live_fleet.specs.Law.{EachEndIsLast, EachFollows, EachGoesOn, EachIsSafe, EachIsToldOnce, EachIsToldRight, EachListIsWhole, EachTurnIsShownLast};
+ghost use Rattle.live_fleet.specs.Law.{EachBeginsCounted, EachEndIsLast, EachFollows, EachGoesOn, EachIsCounted, EachIsKept, EachIsSafe, EachIsToldOnce, EachIsToldRight, EachListIsWhole, EachTurnIsShownLast};
 
 /// Whatever a fleet hears, and whatever readers take in between, what it does is a run of the core, and the status is
 /// what that run says. Where readers take nothing, what each conversation is told and the chapters that are handed out
@@ -30,6 +30,17 @@ pub fn notices_are_told_to_their_own()
 /// Each notice of a client is told once, and in order.
 pub fn notices_are_told_once()
     ensures { EachIsToldOnce }
+{}
+
+/// What can be told a client again is the last of what it was told, in order.
+pub fn notices_are_kept()
+    ensures { EachIsKept }
+{}
+
+/// How many notices a client was told is the number of the last one; those that wait for it have the numbers after that.
+pub fn notices_are_counted()
+    ensures counted { EachIsCounted }
+    ensures begins { EachBeginsCounted }
 {}
 
 /// The open errands of a client that are told line by line are the text that `fleet talk` says at once.

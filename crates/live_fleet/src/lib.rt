@@ -19,6 +19,7 @@ mod party;
 mod posting;
 mod rest;
 mod resting;
+mod sessions;
 mod speaker;
 mod stepping;
 mod taking;
@@ -28,8 +29,8 @@ mod turning;
 pub use cue::Cue;
 pub use law::{
     ends_are_told_last, histories_are_safe, histories_follow_one_another, lists_are_told_whole,
-    notices_are_told_once, notices_are_told_to_their_own, turns_are_shown_last,
-    whatever_it_hears_is_a_run,
+    notices_are_counted, notices_are_kept, notices_are_told_once, notices_are_told_to_their_own,
+    turns_are_shown_last, whatever_it_hears_is_a_run,
 };
 pub use notes::Note;
 pub use open_fleet::OpenFleet;

@@ -6,6 +6,7 @@ ghost use Rattle.fleet_world.specs.Keeps.{talk};
 ghost use Rattle.live_fleet.specs.Act.{Act};
 ghost use Rattle.live_fleet.specs.Does.{CanHear, Does, IsAnswered, IsOpenTo, MakesTurn};
 ghost use Rattle.live_fleet.specs.Party.{IsDoorOf, IsWhole, due, heard_of, new_notes, room, stage_of};
+ghost use Rattle.live_fleet.specs.Recalling.{AreBegun, AreRecalled};
 ghost use Rattle.live_fleet.specs.Went.{Went};
 
 use crate::cue::Cue;
@@ -18,6 +19,7 @@ use crate::telling::tell;
 use crate::turning::{is_ticked, show_tick, turn};
 use fleet_talk::Door;
 use fleet_world::Session;
+use live_parts::Recalls;
 use std::alloc::{Alloc, AllocError, Global};
 
 /// A fleet, the conversations that share it, and what is known of its clients.
@@ -63,6 +65,34 @@ fn new_notes(alloc: Global, session: &Session, clients: u32) -> Result<Vec<Note>
     Ok(notes)
 }
 
+/// Begins with what clients were told before this fleet was opened, or went on: all that was noticed was told.
+fn begin_recalls(recalls: &mut Recalls, session: &Session) -> Result<(), AllocError>
+    requires { 0 ≤ session.now.world.core.number }
+    ensures most { recalls.new.most ≡ recalls.old.most }
+    ensures begun { OnOk result (AreBegun session.now.world.core.history recalls.old recalls.new) }
+    ensures recalled { OnOk result (AreRecalled session.now.world.core.history recalls.new) }
+{
+    recalls.begin(session.world.chapter().opening.clients.as_slice())
+}
+
+/// Begins with what clients were told before, and returns by client what is known of its posts.
+fn begin_clients(
+    alloc: Global,
+    session: &Session,
+    recalls: &mut Recalls,
+    clients: u32,
+) -> Result<Vec<Note>, AllocError>
+    requires number { 0 ≤ session.now.world.core.number }
+    requires count { clients ≡ client_count session.now.world.core.history }
+    ensures notes { IfOk result (λ notes. notes.items ≡ new_notes session.now.world.core.history) }
+    ensures most { recalls.new.most ≡ recalls.old.most }
+    ensures begun { OnOk result (AreBegun session.now.world.core.history recalls.old recalls.new) }
+    ensures recalled { OnOk result (AreRecalled session.now.world.core.history recalls.new) }
+{
+    begin_recalls(recalls, session)?;
+    new_notes(alloc, session, clients)
+}
+
 impl Party {
     /// The party of a fleet that was just opened, or goes on.
     pub fn new(
@@ -70,11 +100,15 @@ impl Party {
         session: Session,
         speakers: Vec<Speaker>,
         door: Door,
+        recalls: Recalls,
     ) -> Result<Party, AllocError>
         // Of each call: only a call with a condition may hand on closures.
         requires { 0 ≤ session.world.core.number }
         ensures session { IfOk result (λ p. talk p.fleet.session ≡ talk session) }
         ensures limited { IfOk result (λ p. p.fleet.limited ≡ false) }
+        ensures most { IfOk result (λ p. p.fleet.recalls.most ≡ recalls.most) }
+        ensures begun { IfOk result (λ p. AreBegun session.world.core.history recalls p.fleet.recalls) }
+        ensures recalled { IfOk result (λ p. AreRecalled session.world.core.history p.fleet.recalls) }
         ensures speakers { IfOk result (λ p. p.speakers ≡ speakers) }
         ensures clients { IfOk result (λ p. p.clients ≡ client_count session.world.core.history) }
         ensures notes { IfOk result (λ p. p.notes.items ≡ new_notes session.world.core.history) }
@@ -82,12 +116,14 @@ impl Party {
         ensures is_over { IfOk result (λ p. p.is_over ≡ false) }
         ensures has_ended { IfOk result (λ p. p.has_ended ≡ false) }
     {
+        let mut recalls = recalls;
         let clients = count_of(&session);
-        let notes = new_notes(alloc, &session, clients)?;
+        let notes = begin_clients(alloc, &session, &mut recalls, clients)?;
         Ok(Party {
             fleet: OpenFleet {
                 session,
                 limited: false,
+                recalls,
             },
             speakers,
             clients,

@@ -65,6 +65,7 @@ fn note_step<R: Alloc<A = Global>>(
     requires { 0 ≤ fleet.old.session.world.core.number }
     ensures step { IfOk result (λ reply. TalkStep (talk fleet.old.session) event reply (talk fleet.new.session)) }
     ensures met { IfOk result (λ reply. fleet.new.limited ≡ (fleet.old.limited || is_limit_met reply)) }
+    ensures recalls { fleet.new.recalls ≡ fleet.old.recalls }
 {
     let reply = fleet.session.step(rt, event)?;
     fleet.limited |= is_limit_met(reply);

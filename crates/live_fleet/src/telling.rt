@@ -93,6 +93,7 @@ fn tell_next<R: Alloc<A = Global>>(
     match collected(fleet.session.step(rt, Event::Collect(client))?) {
         Some(notice) => {
             say_notice(rt.alloc(), out, to, client, notice)?;
+            fleet.recalls.note(client, notice)?;
             Ok(Told::One)
         }
         None => Ok(Told::All),

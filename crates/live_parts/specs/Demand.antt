@@ -1,7 +1,8 @@
 -- What a line asks of a fleet in real time.
-use Rattle.std.specs.Prelude.{ℕ, Bool, true, false, List, [], ◌∷◌, if◌then◌else◌, codes}
+use Rattle.std.specs.Prelude.{ℕ, ◌^◌, Bool, true, false, List, [], ◌∷◌, Option, None, Some, if◌then◌else◌, codes, min, nat_lt}
+use Rattle.std.specs.Option.{option_map}
 use Rattle.std.specs.Str.{bytes_eq}
-use Rattle.fleet_map.specs.Text.{words_of}
+use Rattle.fleet_map.specs.Text.{number_of, words_of}
 use Rattle.fleet_book.specs.declared.event.Event.{Event}
 use Rattle.fleet_book.specs.declared.event.Event.TheVariants.{Post, Tick, Shut}
 use Rattle.fleet_talk.specs.declared.ask.Asked.{Asked}
@@ -30,6 +31,47 @@ watch_asked (word ∷ state ∷ []) =
     else demand.Bad
 watch_asked words = demand.Bad
 
+-- the client that a word numbers
+abbrev pub small : ℕ → Option ℕ
+small n = if nat_lt n (2 ^ 32) then Some n else None
+
+abbrev pub client_of : Option ℕ → Option ℕ
+client_of None = None
+client_of (Some n) = small n
+
+abbrev pub client_in : List ℕ → Option ℕ
+client_in word = client_of (number_of word)
+
+-- the number of a notice that a word says; no notice has so great a number as 2 ^ 58
+abbrev pub seq_in : List ℕ → Option ℕ
+seq_in word = option_map (λ n. min n (2 ^ 58)) (number_of word)
+
+abbrev pub session_of : Option ℕ → Demand
+session_of None = demand.Bad
+session_of (Some client) = demand.Session client
+
+abbrev pub since_of : Option ℕ → Option ℕ → Demand
+since_of (Some client) (Some seq) = demand.Since client seq
+since_of client seq = demand.Bad
+
+-- `session C`, by the words after the first
+abbrev pub session_asked : List (List ℕ) → Demand
+session_asked (client ∷ []) = session_of (client_in client)
+session_asked words = demand.Bad
+
+-- `since C SEQ`, by the words after the first
+abbrev pub since_asked : List (List ℕ) → Demand
+since_asked (client ∷ seq ∷ []) = since_of (client_in client) (seq_in seq)
+since_asked words = demand.Bad
+
+-- what a line asks that asks nothing of a fleet that stands still
+abbrev pub other_asked : Rights → List (List ℕ) → Demand
+other_asked rights [] = demand.Bad
+other_asked rights (word ∷ words) =
+    if bytes_eq word (codes "session") then session_asked words
+    else (if bytes_eq word (codes "since") then since_asked words
+    else where_granted rights.is_operator (watch_asked (word ∷ words)))
+
 -- what a line asks, by what it would ask of a fleet that stands still
 abbrev pub demand_of : Rights → Asked → List ℕ → Demand
 demand_of rights asked.Nothing told = demand.Nothing
@@ -38,6 +80,6 @@ demand_of rights asked.Look told = demand.Ask wanted.Look
 demand_of rights (asked.Open client) told = demand.Open client
 demand_of rights asked.Chapter told = where_granted rights.is_operator (demand.Ask wanted.Chapter)
 demand_of rights asked.Quit told = where_granted rights.is_operator demand.Quit
-demand_of rights asked.Other told = where_granted rights.is_operator (watch_asked (words_of told))
+demand_of rights asked.Other told = other_asked rights (words_of told)
 demand_of rights asked.Long told = demand.Bad
 demand_of rights (asked.NoRoom client) told = demand.NoRoom client

@@ -2,11 +2,12 @@
 use Rattle.std.specs.Prelude.{◌≡◌, List, ◌++◌, Option}
 use Rattle.std.specs.List.{AllByRecursion}
 use Rattle.fleet_grid.specs.Floor.{Floor}
+use Rattle.turns_law.specs.Turns.{Turns}
 use Rattle.fleet_talk.specs.Chapters.{Adds, ChapterView, IsSound}
 
 -- a chapter that may be kept
 abbrev pub IsKeepable : {A : Type 0} → ChapterView A → Type 0
-IsKeepable c = (m : Floor) × IsSound m c.history
+IsKeepable c = (turns : Option Turns) × (m : Floor) × IsSound turns m c.history
 
 abbrev pub AreSound : {A : Type 0} → List (ChapterView A) → Type 0
 AreSound cs = AllByRecursion IsKeepable cs

@@ -1,9 +1,14 @@
+pub mod Chapters
 pub mod Counts
 pub mod Demand
 pub mod Figures
+pub mod Given
 pub mod Histogram
+pub mod Journal
 pub mod Kept
 pub mod Notices
 pub mod Period
+pub mod Recalls
 pub mod Said
 pub mod Size
+pub mod inside

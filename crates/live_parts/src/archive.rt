@@ -1,8 +1,9 @@
 //! The sink of a fleet's chapters, and the chapters that wait for it.
 
-ghost use Rattle.std.specs.Prelude.{◌≡◌, ◌∷◌, ◌++◌, [], Ok, true, OnOk};
+ghost use Rattle.std.specs.Prelude.{◌≡◌, ◌∷◌, ◌++◌, [], Ok, Option, true, OnOk};
 ghost use Rattle.fleet_grid.specs.Floor.{Floor};
 ghost use Rattle.fleet_history.specs.History.{history_of};
+ghost use Rattle.turns_law.specs.Turns.{Turns};
 ghost use Rattle.fleet_talk.specs.Chapters.{Adds, IsSound, chapter_shown};
 ghost use Rattle.live_parts.specs.Kept.{KeepsFirst};
 
@@ -48,7 +49,7 @@ impl<S: ChapterSink> Archive<S> {
 
     /// Keeps the last chapter, after those that wait.
     pub fn keep_last(&mut self, chapter: &Chapter) -> Result<(), Stop>
-        requires sound { (m : Floor) × IsSound m (history_of chapter.now) }
+        requires sound { (turns : Option Turns) × (m : Floor) × IsSound turns m (history_of chapter.now) }
         ensures kept { OnOk result (Adds (S.kept self.old.sink) (S.kept self.new.sink) (self.old.waiting ++ chapter_shown chapter.now ∷ [])) }
     {
         self.waiting.keep_on(&mut self.sink)?;

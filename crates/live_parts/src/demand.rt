@@ -2,10 +2,10 @@
 
 ghost use Rattle.std.specs.Prelude.{◌≡◌};
 ghost use Rattle.fleet_map.specs.Text.{words_of};
-ghost use Rattle.live_parts.specs.Demand.{demand_of, event_asked, watch_asked, where_granted};
+ghost use Rattle.live_parts.specs.Demand.{client_in, demand_of, event_asked, other_asked, seq_in, session_asked, since_asked, watch_asked, where_granted};
 
 use fleet_book::{Event, Order};
-use fleet_map::text::first_word;
+use fleet_map::text::{first_word, number_up_to};
 use fleet_talk::{Asked, Line};
 
 /// What the keeper is asked for.
@@ -31,6 +31,10 @@ pub enum Demand {
     NoRoom(u32),
     /// A client's open errands.
     Open(u32),
+    /// How far the fleet is with a client.
+    Session(u32),
+    /// What a client was told after the notice of this number.
+    Since(u32, u64),
     Ask(Wanted),
     Watch(bool),
     Quit,
@@ -92,6 +96,76 @@ fn watch_asked(line: &[u8]) -> Demand
     }
 }
 
+/// The client that a word numbers.
+fn client_in(word: &[u8]) -> Option<u32>
+    ensures { result ≡ client_in word.now }
+{
+    let number = number_up_to(word, 1 << 32)?;
+    if number < 1 << 32 {
+        Some(number as u32)
+    } else {
+        None
+    }
+}
+
+/// The number of a notice that a word says, or more than any notice has.
+fn seq_in(word: &[u8]) -> Option<u64>
+    ensures { result ≡ seq_in word.now }
+{
+    number_up_to(word, 1 << 58)
+}
+
+/// What a line asks whose first word is `session`, by the words after it.
+fn session_asked(rest: &[u8]) -> Demand
+    ensures { result ≡ session_asked (words_of rest.now) }
+{
+    let Some((client, rest)) = first_word(rest) else {
+        return Demand::Bad;
+    };
+    if first_word(rest).is_some() {
+        return Demand::Bad;
+    }
+    match client_in(client) {
+        Some(client) => Demand::Session(client),
+        None => Demand::Bad,
+    }
+}
+
+/// What a line asks whose first word is `since`, by the words after it.
+fn since_asked(rest: &[u8]) -> Demand
+    ensures { result ≡ since_asked (words_of rest.now) }
+{
+    let Some((client, rest)) = first_word(rest) else {
+        return Demand::Bad;
+    };
+    let Some((seq, rest)) = first_word(rest) else {
+        return Demand::Bad;
+    };
+    if first_word(rest).is_some() {
+        return Demand::Bad;
+    }
+    match (client_in(client), seq_in(seq)) {
+        (Some(client), Some(seq)) => Demand::Since(client, seq),
+        _ => Demand::Bad,
+    }
+}
+
+/// What a line asks that asks nothing of a fleet that stands still.
+fn other_asked(rights: Rights, line: &[u8]) -> Demand
+    ensures { result ≡ other_asked rights (words_of line.now) }
+{
+    let Some((word, rest)) = first_word(line) else {
+        return Demand::Bad;
+    };
+    if word == b"session".as_slice() {
+        session_asked(rest)
+    } else if word == b"since".as_slice() {
+        since_asked(rest)
+    } else {
+        where_granted(rights.is_operator, watch_asked(line))
+    }
+}
+
 /// What a line asks.
 pub fn demand_of(rights: Rights, line: Line<'_>) -> Demand
     ensures { result ≡ demand_of rights line.entry.asked line.entry.told.now }
@@ -103,7 +177,7 @@ pub fn demand_of(rights: Rights, line: Line<'_>) -> Demand
         Asked::Open(client) => Demand::Open(client),
         Asked::Chapter => where_granted(rights.is_operator, Demand::Ask(Wanted::Chapter)),
         Asked::Quit => where_granted(rights.is_operator, Demand::Quit),
-        Asked::Other => where_granted(rights.is_operator, watch_asked(line.told)),
+        Asked::Other => other_asked(rights, line.told),
         Asked::Long => Demand::Bad,
         Asked::NoRoom(client) => Demand::NoRoom(client),
     }

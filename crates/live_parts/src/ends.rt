@@ -1,5 +1,8 @@
 //! Where a fleet's lines come from, and where its output goes.
 
+use crate::recalls::Recalls;
+use fleet_talk::Manner;
+
 /// How a fleet is kept.
 #[derive(Clone, Copy, Debug, PartialEq, Eq)]
 pub struct LiveSettings {
@@ -16,6 +19,8 @@ pub struct LiveSettings {
     pub service: bool,
     /// Whether posts to cells that are not roomy for the fleet's robots are refused.
     pub roomy: bool,
+    /// How the ticks of the fleet are planned.
+    pub manner: Manner,
     /// The version of the program.
     pub version: &'static str,
 }
@@ -28,13 +33,16 @@ pub struct Pipes<P, Q> {
 }
 
 /// The reader and the writer of the first conversation, the pipes of clients 0, 1, .., the writer of the counts, the
-/// writer that takes all figures at once, each second anew, and the sink of the chapters.
+/// writer that takes all figures at once, each second anew, the sink of the chapters, the journal, if one is written, and
+/// what clients were told before.
 #[derive(Drop)]
-pub struct LiveEnds<I, W, P, Q, E, S> {
+pub struct LiveEnds<I, W, P, Q, E, S, J> {
     pub input: I,
     pub output: W,
     pub pipes: Vec<Pipes<P, Q>>,
     pub counts: E,
     pub figures: Option<E>,
     pub sink: S,
+    pub journal: Option<J>,
+    pub recalls: Recalls,
 }

@@ -1,9 +1,10 @@
 //! Chapters that were handed out and are not kept yet.
 
-ghost use Rattle.std.specs.Prelude.{◌≡◌, List, [], ◌∷◌, ◌++◌, length, map, IsTrue, ◌↔◌, OnOk, OnErr, IfNone, IfSome};
+ghost use Rattle.std.specs.Prelude.{◌≡◌, List, Option, [], ◌∷◌, ◌++◌, length, map, IsTrue, ◌↔◌, OnOk, OnErr, IfNone, IfSome};
 ghost use Rattle.std.specs.declared.alloc.Global.{Global};
 ghost use Rattle.fleet_grid.specs.Floor.{Floor};
 ghost use Rattle.fleet_history.specs.History.{history_of};
+ghost use Rattle.turns_law.specs.Turns.{Turns};
 ghost use Rattle.fleet_talk.specs.Chapters.{ChapterView, IsSound, chapter_shown};
 ghost use Rattle.live_parts.specs.Kept.{AreSound, KeepsFirst};
 
@@ -68,7 +69,7 @@ impl Unkept {
 
     /// Adds a chapter.
     pub fn push(&mut self, chapter: Chapter) -> Result<(), AllocError>
-        requires sound { (m : Floor) × IsSound m (history_of chapter) }
+        requires sound { (turns : Option Turns) × (m : Floor) × IsSound turns m (history_of chapter) }
         ensures ok { OnOk result (self.new ≡ self.old ++ chapter_shown chapter ∷ []) }
         ensures err { OnErr result (self.new ≡ self.old) }
     {

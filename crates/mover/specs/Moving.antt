@@ -4,7 +4,8 @@ use Rattle.fleet_grid.specs.Floor.{Floor, IsNeighbour}
 use Rattle.fleet_grid.specs.Walk.{IsBridgeless}
 use Rattle.fleet_hooks.specs.declared.law.TieLaw.{TieLaw}
 use Rattle.fleet_planner.specs.Aimed.{Planner, IsNewPlanner}
-use Rattle.fleet_planner.specs.Planned.{IsPlannedBy}
+use Rattle.fleet_history.specs.History.{History, place}
+use Rattle.fleet_planner.specs.Planned.{IsPlannedBy, waits, goals}
 use Rattle.fleet_planner.specs.declared.lending.Lending.{Lending}
 use Rattle.turns_law.specs.Turns.{Turns, AreTurns}
 use Rattle.turns_law.specs.Turn.{IsTurn}
@@ -41,3 +42,7 @@ pub record IsNewMover (m : Floor) (n : ℕ) (asked : Manner) (p : Mover) : Type 
 abbrev pub IsTickBy : Option Turns → (m : Floor) (laws : List TieLaw) (waits goals : List (Option ℕ)) (from to : List ℕ) → Type 0
 IsTickBy None m laws waits goals from to = IsPlannedBy m laws waits goals from to
 IsTickBy (Some t) m laws waits goals from to = (lending : Lending) × IsTurn m t laws goals waits from to lending
+
+-- a tick after the history that is planned so
+abbrev pub IsPlannedAs : {A : Type 0} → Option Turns → Floor → List TieLaw → History A → List ℕ → Type 0
+IsPlannedAs turns m ties h to = IsTickBy turns m ties (waits h) (goals h) (place h) to

@@ -29,3 +29,5 @@ mod schedules;
 mod texts;
 #[cfg(test)]
 mod trace_explanations;
+#[cfg(test)]
+mod turning;

@@ -1,5 +1,5 @@
 -- What a core keeps besides its history, and how it follows from the history.
-use Rattle.std.specs.Prelude.{ℕ, ◌+◌, ◌≡◌, ◌<◌, ◌≤◌, List, length}
+use Rattle.std.specs.Prelude.{ℕ, ◌+◌, ◌≡◌, ◌<◌, ◌≤◌, List, Option, length}
 use Rattle.fleet_grid.specs.Floor.{Floor, IsNeighbour}
 use Rattle.fleet_grid.specs.Walk.{IsBridgeless}
 use Rattle.fleet_hooks.specs.declared.law.TieLaw.{TieLaw}
@@ -9,10 +9,11 @@ use Rattle.fleet_history.specs.History.{History, start, clock, robots, clients, 
 use Rattle.fleet_history.specs.Laws.{EachTick}
 use Rattle.fleet_history.specs.Next.{IsWithinChapters}
 use Rattle.fleet_history.specs.Notices.{noticed_count}
-use Rattle.fleet_planner.specs.Planned.{IsPlanned}
 use Rattle.fleet_bound.specs.Bound.{KeepsBound}
 use Rattle.fleet_state.specs.State.{State, IsStateOf, by_client, HasFullRooms}
-use Rattle.fleet_planner.specs.Aimed.{Planner, IsAimed}
+use Rattle.fleet_planner.specs.Aimed.{IsAimed}
+use Rattle.turns_law.specs.Turns.{Turns}
+use Rattle.mover.specs.Moving.{Mover, HasTurns, IsPlannedAs}
 use Rattle.fleet_core.specs.inside.Mailboxes.{Mailboxes, box_at}
 
 -- the mailboxes have room for what their clients are owed, hold no more notices than were made, and know their next notices' numbers
@@ -30,21 +31,22 @@ pub record IsWithin {A : Type 0} (limits : Limits) (number : ℕ) (h : History A
   pub numbered : number < limits.chapters
   pub chapters : IsWithinChapters h number limits.chapter
 
--- each tick of the history was planned by closures with these laws, one a robot
-pub record AreTies {A : Type 0} (m : Floor) (ties : List TieLaw) (h : History A) : Type 0 where
+-- each tick of the history was planned so by closures with these laws, one a robot
+pub record AreTies {A : Type 0} (m : Floor) (turns : Option Turns) (ties : List TieLaw) (h : History A) : Type 0 where
   pub count : length ties ≡ robots h
-  pub planned : EachTick (IsPlanned m ties) h
+  pub planned : EachTick (IsPlannedAs turns m ties) h
 
 -- on a map without bridges the chapter began within the bound on waits
 abbrev pub BeginsBounded : {A : Type 0} → Floor → History A → Type 0
 BeginsBounded m h = IsBridgeless (IsNeighbour m) → KeepsBound m (start h.opening)
 
 -- what a core keeps
-pub record IsKept {A : Type 0} (m : Floor) (limits : Limits) (ties : List TieLaw) (number : ℕ) (h : History A) (s : State A) (p : Planner) (x : Mailboxes) : Type 0 where
+pub record IsKept {A : Type 0} (m : Floor) (limits : Limits) (ties : List TieLaw) (number : ℕ) (h : History A) (s : State A) (p : Mover) (x : Mailboxes) : Type 0 where
   pub is : IsStateOf m h s
   pub room : HasFullRooms s
   pub within : IsWithin limits number h
   pub boxed : AreBoxes h x
-  pub aimed : IsAimed m h p
-  pub tied : AreTies m ties h
+  pub aimed : IsAimed m h p.planner
+  pub turns : HasTurns m (robots h) p.turns
+  pub tied : AreTies m p.turns ties h
   pub bounded : BeginsBounded m h

@@ -23,6 +23,13 @@ pub(crate) const ROOMY: Argument<'static> = Argument {
     help: "Refuse posts to cells that are not roomy: then no errand blocks the fleet",
 };
 
+/// How ticks are planned.
+pub(crate) const PLANNER: Argument<'static> = Argument {
+    name: "planner",
+    kind: Kind::Value("NAME"),
+    help: "How ticks are planned: plain, as without this word, or turns: robots take turns in dead ends, so that errands there arrive",
+};
+
 /// A folder.
 pub(crate) const TRACES: Argument<'static> = Argument {
     name: "traces",

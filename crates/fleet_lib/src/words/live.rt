@@ -4,7 +4,9 @@ ghost use Rattle.std.specs.Prelude.{◌≡◌, IfOk};
 ghost use Rattle.clap.specs.Words.{found_of, rows_of};
 ghost use Rattle.fleet_lib.specs.Asked.{IsLive};
 
-use crate::words::arguments::{CHAPTER_BYTES, MAP, RESUME, RESUME_ONLY, ROOMY, SCRIPT, TRACES};
+use crate::words::arguments::{
+    CHAPTER_BYTES, MAP, PLANNER, RESUME, RESUME_ONLY, ROOMY, SCRIPT, TRACES,
+};
 use clap::ArgMatches;
 use command_words::{Argument, Kind, Word, has_flag, some_word_for, some_words_for, word_for};
 use std::alloc::{AllocError, Global};
@@ -31,6 +33,10 @@ pub struct Live {
     pub resume_only: bool,
     /// How often a chapter is kept at least.
     pub keep_every: Option<String>,
+    /// Whether each entry is on the disk before anything is told that follows from it.
+    pub journal: bool,
+    /// How many notices of each client are kept to be told again.
+    pub recall: Option<String>,
     /// The bytes of a chapter's text.
     pub chapter_bytes: Option<String>,
     /// The file for figures.
@@ -44,10 +50,12 @@ pub struct Live {
     pub service: bool,
     /// Whether posts to cells that are not roomy are refused.
     pub roomy: bool,
+    /// How ticks are planned.
+    pub planner: Option<String>,
 }
 
 /// `live [--robots CELLS] [--clients N] [--period TIME] [--tickers N] [--client IN,OUT].. [--watch] [--service] [--roomy]
-/// [--traces DIR] [--resume] [--resume-only] [--keep-every TIME] [--chapter-bytes N] [--metrics FILE] MAP [SCRIPT]`.
+/// [--planner NAME] [--traces DIR] [--resume] [--resume-only] [--keep-every TIME] [--journal] [--recall N] [--chapter-bytes N] [--metrics FILE] MAP [SCRIPT]`.
 pub(crate) const LIVE: Word<'static> = Word {
     name: "live",
     about: "Keeps a fleet in real time for clients that post errands and are told what became of them",
@@ -89,6 +97,7 @@ pub(crate) const LIVE: Word<'static> = Word {
             help: "Go on where standard input ends: only the line `quit` ends the fleet",
         },
         ROOMY,
+        PLANNER,
         TRACES,
         RESUME,
         RESUME_ONLY,
@@ -96,6 +105,16 @@ pub(crate) const LIVE: Word<'static> = Word {
             name: "keep-every",
             kind: Kind::Value("TIME"),
             help: "Write a chapter at least so often, as 10s",
+        },
+        Argument {
+            name: "journal",
+            kind: Kind::Flag,
+            help: "Tell nothing before it is on the disk: what was told stands, whatever becomes of the program",
+        },
+        Argument {
+            name: "recall",
+            kind: Kind::Value("N"),
+            help: "How many notices of each client are kept for `since`; with --journal 65536 if not given",
         },
         CHAPTER_BYTES,
         Argument {
@@ -120,8 +139,10 @@ pub(crate) fn live_in(alloc: Global, matches: &ArgMatches<'_>) -> Result<Live, A
     let tickers = some_word_for(alloc, matches, "tickers")?;
     let traces = some_word_for(alloc, matches, "traces")?;
     let keep_every = some_word_for(alloc, matches, "keep-every")?;
+    let recall = some_word_for(alloc, matches, "recall")?;
     let chapter_bytes = some_word_for(alloc, matches, "chapter-bytes")?;
     let metrics = some_word_for(alloc, matches, "metrics")?;
+    let planner = some_word_for(alloc, matches, "planner")?;
     let pipes = some_words_for(alloc, matches, "client")?;
     Ok(Live {
         map,
@@ -134,11 +155,14 @@ pub(crate) fn live_in(alloc: Global, matches: &ArgMatches<'_>) -> Result<Live, A
         resume: has_flag(matches, "resume"),
         resume_only: has_flag(matches, "resume-only"),
         keep_every,
+        journal: has_flag(matches, "journal"),
+        recall,
         chapter_bytes,
         metrics,
         pipes,
         watch: has_flag(matches, "watch"),
         service: has_flag(matches, "service"),
         roomy: has_flag(matches, "roomy"),
+        planner,
     })
 }

@@ -4,7 +4,9 @@ ghost use Rattle.std.specs.Prelude.{◌≡◌, IfOk};
 ghost use Rattle.clap.specs.Words.{found_of, rows_of};
 ghost use Rattle.fleet_lib.specs.Asked.{IsTalk};
 
-use crate::words::arguments::{CHAPTER_BYTES, MAP, RESUME, RESUME_ONLY, ROOMY, SCRIPT, TRACES};
+use crate::words::arguments::{
+    CHAPTER_BYTES, MAP, PLANNER, RESUME, RESUME_ONLY, ROOMY, SCRIPT, TRACES,
+};
 use clap::ArgMatches;
 use command_words::{Argument, Kind, Word, has_flag, some_word_for, word_for};
 use std::alloc::{AllocError, Global};
@@ -29,9 +31,12 @@ pub struct Talk {
     pub chapter_bytes: Option<String>,
     /// Whether posts to cells that are not roomy are refused.
     pub roomy: bool,
+    /// How ticks are planned.
+    pub planner: Option<String>,
 }
 
-/// `talk [--marks] [--roll] [--chapter-bytes N] [--roomy] [--traces DIR] [--resume] [--resume-only] MAP [SCRIPT]`.
+/// `talk [--marks] [--roll] [--chapter-bytes N] [--roomy] [--planner NAME] [--traces DIR] [--resume] [--resume-only] MAP
+/// [SCRIPT]`.
 pub(crate) const TALK: Word<'static> = Word {
     name: "talk",
     about: "Talks to a fleet: answers each line of standard input as soon as it is read",
@@ -49,6 +54,7 @@ pub(crate) const TALK: Word<'static> = Word {
         },
         CHAPTER_BYTES,
         ROOMY,
+        PLANNER,
         TRACES,
         RESUME,
         RESUME_ONLY,
@@ -65,6 +71,7 @@ pub(crate) fn talk_in(alloc: Global, matches: &ArgMatches<'_>) -> Result<Talk, A
     let script = some_word_for(alloc, matches, "SCRIPT")?;
     let traces = some_word_for(alloc, matches, "traces")?;
     let chapter_bytes = some_word_for(alloc, matches, "chapter-bytes")?;
+    let planner = some_word_for(alloc, matches, "planner")?;
     Ok(Talk {
         map,
         script,
@@ -75,5 +82,6 @@ pub(crate) fn talk_in(alloc: Global, matches: &ArgMatches<'_>) -> Result<Talk, A
         roll: has_flag(matches, "roll"),
         chapter_bytes,
         roomy: has_flag(matches, "roomy"),
+        planner,
     })
 }

@@ -32,5 +32,6 @@ HasAtMost {A} n w cs number = (k : ℕ) (x : ClientView A) → slice_get cs k �
 pub record SameBut {A : Type 0} (w v : World A) : Type 0 where
   pub floor : v.floor ≡ w.floor
   pub ties : v.ties ≡ w.ties
+  pub turns : v.turns ≡ w.turns
   pub number : v.number ≡ w.number
   pub history : v.history ≡ w.history

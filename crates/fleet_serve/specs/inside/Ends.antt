@@ -1,5 +1,5 @@
 -- What a serve that came to its end is known to be.
-use Rattle.std.specs.Prelude.{◌≡◌, ℕ, ◌<◌, List, length, Vec}
+use Rattle.std.specs.Prelude.{◌≡◌, ℕ, ◌<◌, List, None, length, Vec}
 use Rattle.std.specs.declared.alloc.Global.{Global}
 use Rattle.fleet_book.specs.declared.event.Event.{Event}
 use Rattle.fleet_book.specs.declared.notice.Notice.{Notice}
@@ -7,7 +7,7 @@ use Rattle.fleet_grid.specs.Floor.{Floor}
 use Rattle.fleet_history.specs.History.{History, clock}
 use Rattle.fleet_history.specs.Legal.{IsLegal}
 use Rattle.fleet_history.specs.Laws.{EachTick}
-use Rattle.fleet_planner.specs.Planned.{IsPlanned}
+use Rattle.mover.specs.Moving.{IsPlannedAs}
 use Rattle.fleet_bound.specs.Bound.{WaitsAreBounded}
 use Rattle.fleet_bound.specs.Roomy.{AdvancesIfRoomy, HasBound}
 use Rattle.fleet_core.specs.Core.{World}
@@ -20,9 +20,9 @@ pub record IsEnd (began : World Global) (events : List Event) (most clients lane
   pub floor : m ≡ began.floor
   pub opening : h.opening ≡ began.history.opening
   pub legal : IsLegal m h
-  pub planned : EachTick (IsPlanned m began.ties) h
-  pub advancing : AdvancesIfRoomy m h
-  pub bounded : HasBound m h → WaitsAreBounded m h
+  pub planned : EachTick (IsPlannedAs began.turns m began.ties) h
+  pub advancing : began.turns ≡ None → AdvancesIfRoomy m h
+  pub bounded : began.turns ≡ None → HasBound m h → WaitsAreBounded m h
   pub tick : ticks ≡ clock h
   pub posted : TakesPosted h events clients
   pub all : lane_full ≡ 0 → length events < most → TakesAll h events clients

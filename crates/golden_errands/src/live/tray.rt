@@ -2,7 +2,7 @@
 
 ghost use Rattle.std.specs.Prelude.{None};
 
-use fleet_lib::{Chapter, ChapterSink, SinkFault};
+use fleet_lib::{Chapter, ChapterSink, Journal, SinkFault};
 use std::alloc::{AllocError, Global};
 use std::sync::Arc;
 use std::sync::atomic::{AtomicU64, Ordering};
@@ -69,5 +69,19 @@ impl ChapterSink for Tray {
         let entries = chapter.entries.len() as u64;
         self.counts.entries.fetch_add(entries, Ordering::SeqCst);
         Ok(())
+    }
+}
+
+/// The journal of a fleet that writes none.
+#[derive(Drop)]
+pub(crate) struct NoJournal;
+
+impl Journal for NoJournal {
+    ghost use Rattle.std.specs.Prelude.{[]};
+
+    ghost logged = { λ _. [] };
+
+    fn log(&mut self, _chapter: &Chapter, _from: usize) -> Result<(), SinkFault> {
+        Err(SinkFault::File)
     }
 }

@@ -2,7 +2,7 @@
 
 use super::case::Case;
 use super::tray::Tray;
-use fleet_lib::{Ends, Settings, TalkTexts, run_talk};
+use fleet_lib::{Ends, Manner, Settings, TalkTexts, run_talk};
 use std::alloc::{Alloc, AllocError, Global};
 use std::io::BufReader;
 use test_kit::{Room, Sink, Source};
@@ -103,6 +103,7 @@ pub(crate) fn outcome_of<R: Alloc<A = Global>>(
         marks: case.marks,
         roll: case.roll,
         roomy: case.roomy,
+        manner: Manner::Plain,
     };
     let mut error = Sink::new(alloc, Room::ALL);
     let status = run_talk(rt, texts, settings, &mut ends, &mut error);

@@ -6,7 +6,8 @@ use Rattle.fleet_history.specs.History.{start}
 use Rattle.fleet_history.specs.Legal.{IsInOrder}
 use Rattle.fleet_history.proofs.Legal.{legal-opening}
 use Rattle.fleet_history.proofs.Ticks.{each_tick-start}
-use Rattle.fleet_planner.specs.Planned.{IsPlanned}
+use Rattle.mover.specs.Moving.{IsPlannedAs}
+use Rattle.fleet_core.proofs.Manners.{no-turns}
 use Rattle.fleet_state.specs.State.{IsStateOf}
 use Rattle.fleet_state.proofs.Parts.{queue-limit}
 use Rattle.fleet_core.specs.Core.{opening_of}
@@ -42,6 +43,7 @@ returns-in-Ok g c =
     let here : IsStateOf c.args.grid.now (start o) c.in_ok-opening.state =
     subst (λ (x : Opening g.row.A.Denot). IsStateOf c.args.grid.now (start x) c.in_ok-opening.state) begun.opening (begun.of c.args.grid.now (subst (IsInOrder c.args.grid.now) (sym begun.opening) i)) in
     record {
+      plain = means.plain;
       opening = begun.opening;
       mailboxes = ap (λ (x : Mailboxes). x.boxes) means.mailboxes;
       kept = rw begun.opening
@@ -50,9 +52,10 @@ returns-in-Ok g c =
             room = begun.full (no_more c.in_ok-opening.state.queue c.args.limits.queue (queue-limit here));
             within = within-opened c.args.grid.now c.args.starts.now c.args.clients c.args.limits c.args.laws.now c.requires;
             boxed = rw means.mailboxes (boxes-opened c.args.grid.now c.args.starts.now c.args.clients c.args.limits c.args.laws.now c.requires);
-            aimed = aimed-start c.args.grid.now o n c.in-Ok.planner many (unfinished-opened g.row.A.Denot c.args.starts.now c.args.clients c.args.limits c.args.laws.now)
+            aimed = aimed-start c.args.grid.now o n c.in-Ok.planner.planner many (unfinished-opened g.row.A.Denot c.args.starts.now c.args.clients c.args.limits c.args.laws.now)
                 means.planner.none means.planner.on means.planner.size means.planner.bridge means.planner.keeps;
-            tied = record { count = c.requires.hooks.ties ∙ sym many; planned = each_tick-start (IsPlanned c.args.grid.now c.args.laws.now.ties) o };
+            turns = no-turns c.args.grid.now _ c.in-Ok.planner.turns means.plain;
+            tied = record { count = c.requires.hooks.ties ∙ sym many; planned = each_tick-start (IsPlannedAs c.in-Ok.planner.turns c.args.grid.now c.args.laws.now.ties) o };
             bounded = λ none. bound-opened c.args.grid.now c.args.starts.now c.args.clients c.args.limits c.args.laws.now c.requires begun.orderly;
           };
     }

@@ -7,8 +7,5 @@ open-requires-2 g c = c.requires
 pub returns-in_err-mailboxes : goal.returns-in_err-mailboxes
 returns-in_err-mailboxes g c = IfOk-from_err c.from_residual.result _ c.from_residual.ensures.0
 
-pub returns-in_err-planner : goal.returns-in_err-planner
-returns-in_err-planner g c = IfOk-from_err c.from_residual-in_err-planner.result _ c.from_residual-in_err-planner.ensures.0
-
-pub returns : goal.returns
-returns g c = record { planner = c.in_ok-planner.ensures; mailboxes = c.in_ok-mailboxes.ensures }
+pub returns-in-Ok : goal.returns-in-Ok
+returns-in-Ok g c = record { planner = c.in-Ok.ensures.planner; plain = c.in-Ok.ensures.chosen; mailboxes = c.in_ok-mailboxes.ensures }

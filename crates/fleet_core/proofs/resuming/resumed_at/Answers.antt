@@ -28,14 +28,15 @@ resume-requires-2 g c =
     let can = c.requires.2 in
     (start c.args.opening.now, c.in_ok-state.ensures.of c.args.grid.now can.order)
 
-pub returns : goal.returns
-returns g c =
+pub returns-in-Ok : goal.returns-in-Ok
+returns-in-Ok g c =
     let can = c.requires.2 in
     let here = c.in_ok-state.ensures.of c.args.grid.now can.order in
     record {
       is = here;
       room = c.in_ok-state.ensures.full (no_more c.in_ok-state.state.queue c.args.opening.now.queue c.args.limits.queue (queue-limit here) can.same.queue);
-      aimed = c.in_ok-planner.ensures (start c.args.opening.now) here;
+      aimed = c.in-Ok.ensures.aimed (start c.args.opening.now) here;
+      plain = c.in-Ok.ensures.chosen;
       boxes = c.in_ok-mailboxes.ensures.boxes c.args.grid.now (start c.args.opening.now) here;
       noticed = c.in_ok-mailboxes.ensures.noticed ∙ ap (λ (cs : List ClientState). map (λ k. k.noticed) cs) c.as_slice-clients.ensures;
     }

@@ -11,7 +11,7 @@ pub returns-in_err-reserve : goal.returns-in_err-reserve
 returns-in_err-reserve g c = record {
   items = c.reserve.ensures.items;
   ready = IfOk-from_err c.from_residual.result _ c.from_residual.ensures.0;
-  same = record { on = c.requires.may.aimed.on; size = refl; bridge = refl; keeps = c.requires.may.aimed.kept };
+  same = record { turns = refl; on = c.requires.may.aimed.on; size = refl; bridge = refl; keeps = c.requires.may.aimed.kept };
   refused = all_err c.from_residual.result refl;
 }
 
@@ -19,6 +19,6 @@ pub returns : goal.returns
 returns g c = record {
   items = c.reserve.ensures.items;
   ready = on_ok_map c.turn.result (λ goals. record { goals = goals; room = omega (arith, c.in_ok-reserve.ensures.ok) }) c.turn.ensures.goals;
-  same = record { on = c.turn.ensures.on; size = c.turn.ensures.size; bridge = c.turn.ensures.bridge; keeps = c.turn.ensures.keeps };
+  same = record { turns = c.turn.ensures.turns; on = c.turn.ensures.on; size = c.turn.ensures.size; bridge = c.turn.ensures.bridge; keeps = c.turn.ensures.keeps };
   refused = on_err_map c.turn.result (λ same. ap goals_of same) c.turn.ensures.refused;
 }

@@ -2,7 +2,8 @@ use Rattle.std.proofs.Common.{◌∙◌, List, ℕ, length, refl, ap, subst, ari
 use Rattle.std.proofs.lemmas.Result.{IfOk-from_err}
 use Rattle.fleet_state.proofs.Parts.{cell-count, queue-count}
 use Rattle.fleet_grid.specs.Floor.{Floor}
-use Rattle.fleet_planner.specs.Aimed.{Planner}
+use Rattle.mover.specs.Moving.{Mover}
+use Rattle.fleet_core.proofs.Manners.{turns-as}
 use Rattle.fleet_planner.proofs.GoalsKept.{aimed-still}
 use Rattle.fleet_core.specs.inside.Ready.{IsReady, IsOnSame}
 use Rattle.fleet_core.proofs.Refusals.{all_err}
@@ -17,12 +18,13 @@ make_ready-requires g c =
     let same = c.step_of.ensures.same in
     record {
       may = record { history = may.history; is = may.is; aimed = aimed-still may.is may.aimed c.step_of.ensures.goals same.on same.size same.bridge same.keeps };
+      turns = turns-as c.args.grid.now _ c.args.planner.now.turns c.step_of.new.planner.turns same.turns c.requires.turns;
       same = omega (arith, ap (λ (to : List ℕ). length to) c.deref.ensures.value, c.in_ok-step.ensures.step.conflict_free.same_length, cell-count may.is, queue-count may.is);
     }
 
 -- what stands after both calls
-both : (m : Floor) (p q r : Planner) → IsOnSame m p q → IsOnSame m q r → IsOnSame m p r
-both m p q r a b = record { on = b.on; size = b.size ∙ a.size; bridge = b.bridge ∙ a.bridge; keeps = b.keeps }
+both : (m : Floor) (p q r : Mover) → IsOnSame m p q → IsOnSame m q r → IsOnSame m p r
+both m p q r a b = record { turns = b.turns ∙ a.turns; on = b.on; size = b.size ∙ a.size; bridge = b.bridge ∙ a.bridge; keeps = b.keeps }
 
 pub returns-in_err-step : goal.returns-in_err-step
 returns-in_err-step g c = record {

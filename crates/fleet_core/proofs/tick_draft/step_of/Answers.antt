@@ -32,16 +32,16 @@ pub returns-in_err-to-clause-goals : goal.returns-in_err-to-clause-goals
 returns-in_err-to-clause-goals g c = c.plan.ensures.goals
 
 pub returns-in_err-to-clause-same : goal.returns-in_err-to-clause-same
-returns-in_err-to-clause-same g c = record { on = c.plan.ensures.on; size = c.plan.ensures.size; bridge = c.plan.ensures.bridge; keeps = c.plan.ensures.keeps }
+returns-in_err-to-clause-same g c = record { turns = c.plan.ensures.turns; on = c.plan.ensures.on; size = c.plan.ensures.size; bridge = c.plan.ensures.bridge; keeps = c.plan.ensures.keeps }
 
 pub returns-in_err-arrived-clause-goals : goal.returns-in_err-arrived-clause-goals
 returns-in_err-arrived-clause-goals g c = c.plan.ensures.goals
 
 pub returns-in_err-arrived-clause-same : goal.returns-in_err-arrived-clause-same
-returns-in_err-arrived-clause-same g c = record { on = c.plan.ensures.on; size = c.plan.ensures.size; bridge = c.plan.ensures.bridge; keeps = c.plan.ensures.keeps }
+returns-in_err-arrived-clause-same g c = record { turns = c.plan.ensures.turns; on = c.plan.ensures.on; size = c.plan.ensures.size; bridge = c.plan.ensures.bridge; keeps = c.plan.ensures.keeps }
 
 pub returns-clause-goals : goal.returns-clause-goals
 returns-clause-goals g c = c.plan.ensures.goals
 
 pub returns-clause-same : goal.returns-clause-same
-returns-clause-same g c = record { on = c.plan.ensures.on; size = c.plan.ensures.size; bridge = c.plan.ensures.bridge; keeps = c.plan.ensures.keeps }
+returns-clause-same g c = record { turns = c.plan.ensures.turns; on = c.plan.ensures.on; size = c.plan.ensures.size; bridge = c.plan.ensures.bridge; keeps = c.plan.ensures.keeps }

@@ -20,7 +20,7 @@ returns-in-Some g c =
     let chapter = chapter_shown c.in-Some.chapter in
     then_each known (λ bytes. EndsOn on chapter bytes a b k c.resume.result) (λ bytes. EndsWith on (option_map chapter_shown c.args.kept) bytes a b k c.resume.result)
     (λ bytes h. went_on chapter (ap (option_map chapter_shown) c.in-Some.is) h)
-    (ends-on on k chapter known a b c.resume.result c.resume.ensures.ended c.resume.ensures.refused c.resume.ensures.untouched (λ same. ap (λ e. g.W.Write.contents e.output) same) (λ same. ap (λ e. g.S.ChapterSink.kept e.sink) same) c.resume.ensures.broken c.resume.ensures.unwritten)
+    (ends-on on k chapter known a b c.resume.result c.resume.ensures.ended c.resume.ensures.refused c.resume.ensures.untouched c.resume.ensures.roomless (λ same. ap (λ e. g.W.Write.contents e.output) same) (λ same. ap (λ e. g.S.ChapterSink.kept e.sink) same) c.resume.ensures.broken c.resume.ensures.unwritten)
 
 pub returns-in-None : goal.returns-in-None
 returns-in-None g c =
@@ -31,4 +31,4 @@ returns-in-None g c =
     let k : KeptChapters = record { old = g.S.ChapterSink.kept c.args.ends.now.sink; new = g.S.ChapterSink.kept c.converse.new.ends.sink } in
     then_each known (λ bytes. EndsAs on bytes a b k c.converse.result) (λ bytes. EndsWith on (option_map chapter_shown c.args.kept) bytes a b k c.broken_off.result)
     (λ bytes h. began (ap (option_map chapter_shown) c.in-None.is) c.converse.result c.broken_off.ensures h)
-    (ends-as on k known a b c.converse.result c.converse.ensures.ended c.converse.ensures.refused c.converse.ensures.broken c.converse.ensures.unwritten)
+    (ends-as on k known a b c.converse.result c.converse.ensures.ended c.converse.ensures.refused c.converse.ensures.roomless c.converse.ensures.broken c.converse.ensures.unwritten)

@@ -8,4 +8,5 @@ returns g c = record {
   texts = c.in_ok-events.ensures.texts;
   chapters = c.in_ok-events.ensures.chapters;
   taken = c.in_ok-events.ensures.taken;
+  log = c.in_ok-events.ensures.log;
 }

@@ -1,6 +1,6 @@
 use Rattle.fleet_history.specs.Legal.{IsLegal}
 use Rattle.fleet_history.proofs.Legal.{no_conflict-legal}
-use Rattle.fleet_reopen.proofs.Chain.{chain-legal, chain-rings, chain-closed, chain-bound, chain-roomy}
+use Rattle.fleet_reopen.proofs.Chain.{chain-legal, chain-rings, chain-closed, chain-bound, chain-roomy, chain-serves}
 use Rattle.fleet_reopen.proofs.law.chapters_are_one_run.Goals as goal
 
 pub returns : goal.returns
@@ -10,4 +10,5 @@ returns g c = record {
   closed = λ m o before h next client chain same known closed. chain-closed m (IsLegal m) o before h next client chain same known closed;
   bounded = chain-bound;
   roomy = chain-roomy;
+  served = λ m t l o before h chain are begins. chain-serves m t l o are begins before h chain;
 }

@@ -24,13 +24,13 @@ pub returns-in-Ok-clause-legal : goal.returns-in-Ok-clause-legal
 returns-in-Ok-clause-legal g c = on_ok c.serve_at.result c.serve_at.ensures.ended (λ s e. e.legal)
 
 pub returns-in-Ok-clause-advancing : goal.returns-in-Ok-clause-advancing
-returns-in-Ok-clause-advancing g c = on_ok c.serve_at.result c.serve_at.ensures.ended (λ s e. e.advancing)
+returns-in-Ok-clause-advancing g c = on_ok c.serve_at.result c.serve_at.ensures.ended (λ s e. e.advancing refl)
 
 pub returns-in-Ok-clause-planned : goal.returns-in-Ok-clause-planned
 returns-in-Ok-clause-planned g c = on_ok c.serve_at.result c.serve_at.ensures.ended (λ s e. e.planned)
 
 pub returns-in-Ok-clause-bounded : goal.returns-in-Ok-clause-bounded
-returns-in-Ok-clause-bounded g c = on_ok c.serve_at.result c.serve_at.ensures.ended (λ s e. e.bounded)
+returns-in-Ok-clause-bounded g c = on_ok c.serve_at.result c.serve_at.ensures.ended (λ s e. e.bounded refl)
 
 pub returns-in-Ok-clause-tick : goal.returns-in-Ok-clause-tick
 returns-in-Ok-clause-tick g c = on_ok c.serve_at.result c.serve_at.ensures.ended (λ s e. e.tick)

@@ -13,5 +13,5 @@ returns-then-not-wants_mailbox-clause-ok g c =
 pub returns-clause-ok : goal.returns-clause-ok
 returns-clause-ok g c =
     takes-wider c.args.client c.in_ok-reply.reply c.in_ok-again.again c.is_took-2.result (at_of c.args.fleet.now c.args.out.now) (at_of c.step_on.new.fleet c.step_on.new.out)
-    (record { fleet = record { talk = talk c.make_room.new.session; met = c.step_on.new.fleet.limited }; out = out_of c.step_on.new.out }) (at_of c.step_on-2.new.fleet c.step_on-2.new.out) c.in_ok-reply.ensures.ok
-    (sym c.wants_mailbox.ensures ∙ c.if-not-wants_mailbox.false) c.in_ok-make_room.ensures refl refl c.in_ok-again.ensures.ok c.is_took-2.ensures
+    (record { fleet = record { talk = talk c.make_room.new.session; met = c.step_on.new.fleet.limited; recalls = c.step_on.new.fleet.recalls }; out = out_of c.step_on.new.out }) (at_of c.step_on-2.new.fleet c.step_on-2.new.out) c.in_ok-reply.ensures.ok
+    (sym c.wants_mailbox.ensures ∙ c.if-not-wants_mailbox.false) c.in_ok-make_room.ensures refl refl refl c.in_ok-again.ensures.ok c.is_took-2.ensures

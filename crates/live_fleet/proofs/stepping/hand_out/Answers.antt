@@ -10,5 +10,5 @@ use Rattle.live_fleet.proofs.stepping.hand_out.Goals as goal
 pub returns-clause-ok : goal.returns-clause-ok
 returns-clause-ok g c =
     hands-out-if c.hand_over.result (at_of c.args.fleet.now c.args.out.now)
-    (record { fleet = record { talk = talk c.hand_over.new.session; met = c.args.fleet.now.limited }; out = out_of (record c.args.out.now { chapters = c.hand_over.new.chapters }) })
-    (map chapter_shown c.reserve.new.self.items) (ap (map chapter_shown) c.reserve.ensures.items) c.hand_over.ensures refl refl
+    (record { fleet = record { talk = talk c.hand_over.new.session; met = c.args.fleet.now.limited; recalls = c.args.fleet.now.recalls }; out = out_of (record c.args.out.now { chapters = c.hand_over.new.chapters }) })
+    (map chapter_shown c.reserve.new.self.items) (ap (map chapter_shown) c.reserve.ensures.items) c.hand_over.ensures refl refl refl

@@ -1,4 +1,4 @@
-use Rattle.fleet_core.proofs.WaitBound.{advances-kept, bound-kept, waits-kept}
+use Rattle.fleet_core.proofs.WaitBound.{advances-kept, bound-kept, waits-kept, serves-kept}
 use Rattle.fleet_core.proofs.CoreKept.{counts-small, pending-small}
 use Rattle.fleet_core.proofs.kernel.Core.chapter.Goals as goal
 
@@ -19,6 +19,9 @@ returns-clause-few g c = rw (← c.self.view_is) c.self.invariant.within.entries
 
 pub returns-clause-pending : goal.returns-clause-pending
 returns-clause-pending g c = rw (← c.self.view_is) (pending-small c.self.invariant.within c.self.inside.grid c.self.invariant.is.legal c.self.invariant.boxed)
+
+pub returns-clause-served : goal.returns-clause-served
+returns-clause-served g c = rw (← c.self.view_is) (serves-kept c.self.invariant)
 
 pub returns-clause-bounded : goal.returns-clause-bounded
 returns-clause-bounded g c = rw (← c.self.view_is) (waits-kept c.self.invariant)

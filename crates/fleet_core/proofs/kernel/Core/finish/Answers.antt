@@ -1,4 +1,4 @@
-use Rattle.fleet_core.proofs.WaitBound.{advances-kept, waits-kept}
+use Rattle.fleet_core.proofs.WaitBound.{advances-kept, waits-kept, serves-kept}
 use Rattle.fleet_core.proofs.kernel.Core.finish.Goals as goal
 
 pub returns-clause-legal : goal.returns-clause-legal
@@ -9,6 +9,9 @@ returns-clause-planned g c = rw (← c.self.view_is) c.self.invariant.tied.plann
 
 pub returns-clause-advancing : goal.returns-clause-advancing
 returns-clause-advancing g c = rw (← c.self.view_is) (advances-kept c.self.invariant)
+
+pub returns-clause-served : goal.returns-clause-served
+returns-clause-served g c = rw (← c.self.view_is) (serves-kept c.self.invariant)
 
 pub returns-clause-bounded : goal.returns-clause-bounded
 returns-clause-bounded g c = rw (← c.self.view_is) (waits-kept c.self.invariant)

@@ -21,6 +21,7 @@ invariant_of-self g c =
       within = k.within;
       boxed = rw c.pop.ensures.rest (boxes-with k.is.legal k.boxed c.args.client _ known (omega (arith, length-drop 1 box.notices)) (omega arith));
       aimed = k.aimed;
+      turns = k.turns;
       tied = k.tied;
       bounded = k.bounded;
     }

@@ -16,7 +16,7 @@ longest_is g c = c.longest_queue.ensures ∙ ap longest_queue (c.queues.ensures.
 robots_is : (g : _) (c : After-idle_within g) → c.robots.result ≡ robots (history_of c.self.inside.chapter)
 robots_is g c = c.robots.ensures.of c.self.inside.grid (history_of c.self.inside.chapter) c.self.invariant.is
 
-told_is : (g : _) (c : After-idle_within g) → c.idle_within.result ≡ idle_within c.self.inside.planner.bridgeless c.longest_queue.result c.robots.result (floor_count c.self.inside.grid)
+told_is : (g : _) (c : After-idle_within g) → c.idle_within.result ≡ idle_within c.self.inside.planner.planner.bridgeless c.longest_queue.result c.robots.result (floor_count c.self.inside.grid)
 told_is g c = rw (c.is_bridgeless.ensures, c.floor_count.ensures) at c.idle_within.ensures
 
 pub idle_within-requires-clause-queued : goal.idle_within-requires-clause-queued
@@ -29,15 +29,15 @@ idle_within-requires-clause-few g c = omega (arith, c.robots.ensures.count, robo
 
 pub returns-clause-told : goal.returns-clause-told
 returns-clause-told g c = rw (← c.self.view_is)
-    (within-told (IsBridgeless (IsNeighbour c.self.inside.grid)) c.self.inside.planner.bridgeless c.longest_queue.result c.robots.result (floor_count c.self.inside.grid) c.idle_within.result c.self.invariant.aimed.bridge (told_is g c))
+    (within-told (IsBridgeless (IsNeighbour c.self.inside.grid)) c.self.inside.planner.planner.bridgeless c.longest_queue.result c.robots.result (floor_count c.self.inside.grid) c.idle_within.result c.self.invariant.aimed.bridge (told_is g c))
 
 pub returns-clause-exact : goal.returns-clause-exact
 returns-clause-exact g c =
     let h = history_of c.self.inside.chapter in
     rw (← c.self.view_is)
-    (within-exact c.self.inside.planner.bridgeless c.longest_queue.result c.robots.result (floor_count c.self.inside.grid) (longest_after h) (robots h) c.idle_within.result (longest_is g c) (robots_is g c) (told_is g c))
+    (within-exact c.self.inside.planner.planner.bridgeless c.longest_queue.result c.robots.result (floor_count c.self.inside.grid) (longest_after h) (robots h) c.idle_within.result (longest_is g c) (robots_is g c) (told_is g c))
 
 pub returns-clause-idle : goal.returns-clause-idle
 returns-clause-idle g c =
     rw (← c.self.view_is)
-    (within-idle c.self.inside.grid (history_of c.self.inside.chapter) c.self.inside.planner.bridgeless c.longest_queue.result c.robots.result c.idle_within.result (longest_is g c) (robots_is g c) (told_is g c))
+    (within-idle c.self.inside.grid (history_of c.self.inside.chapter) c.self.inside.planner.planner.bridgeless c.longest_queue.result c.robots.result c.idle_within.result (longest_is g c) (robots_is g c) (told_is g c))

@@ -4,14 +4,14 @@ use Rattle.fleet_history.specs.History.{History, history_of, start}
 use Rattle.fleet_history.specs.Next.{next_opening}
 use Rattle.fleet_history.proofs.Next.{next-robots}
 use Rattle.fleet_history.proofs.Ticks.{each_tick-start}
-use Rattle.fleet_planner.specs.Planned.{IsPlanned}
+use Rattle.mover.specs.Moving.{HasTurns, IsPlannedAs}
 use Rattle.fleet_state.proofs.NextOpening.{goes-on}
 use Rattle.fleet_state.proofs.Parts.{queue-count}
 use Rattle.fleet_core.specs.Hooks.{AreArrivals, AreFarewells}
 use Rattle.fleet_core.specs.inside.Kept.{IsKept}
 use Rattle.fleet_bound.proofs.BoundLaws.{bound-next}
 use Rattle.fleet_bound.proofs.Roomy.{bound-bridgeless}
-use Rattle.fleet_core.proofs.WaitBound.{advances-kept, bound-kept, waits-kept}
+use Rattle.fleet_core.proofs.WaitBound.{advances-kept, bound-kept, plain-kept, waits-kept, serves-kept}
 use Rattle.fleet_planner.proofs.GoalsKept.{aimed-next}
 use Rattle.fleet_core.proofs.ClosuresKept.{arrivals-next, farewells-next}
 use Rattle.fleet_core.proofs.CoreKept.{boxes-next, within-next, within-room}
@@ -43,8 +43,9 @@ invariant_of-self g c =
       within = within-next k.within c.if-self.false;
       boxed = boxes-next k.is.legal k.boxed;
       aimed = aimed-next k.is k.aimed;
-      tied = record { count = k.tied.count ∙ sym (next-robots h); planned = each_tick-start (IsPlanned c.self.inside.grid c.self.inside.ties.items) (next_opening h) };
-      bounded = λ none. bound-next c.self.inside.grid h k.is.legal (bound-kept k (bound-bridgeless c.self.inside.grid h none));
+      turns = subst (λ n. HasTurns c.self.inside.grid n c.self.inside.planner.turns) (sym (next-robots h)) k.turns;
+      tied = record { count = k.tied.count ∙ sym (next-robots h); planned = each_tick-start (IsPlannedAs c.self.inside.planner.turns c.self.inside.grid c.self.inside.ties.items) (next_opening h) };
+      bounded = λ none. bound-next c.self.inside.grid h k.is.legal (bound-kept k (plain-kept k none) (bound-bridgeless c.self.inside.grid h none));
     }))
 
 pub returns-clause-planned : goal.returns-clause-planned
@@ -66,6 +67,9 @@ returns-clause-farewells g c = λ spare k.
     subst (λ (x : History g.row.A.Denot). AreFarewells x spare) (sym (history_is g c))
     (farewells-next (history_of c.self.inside.chapter) spare (subst (λ w. AreFarewells w.history spare) (sym c.self.view_is) k))
 
+pub returns-clause-served : goal.returns-clause-served
+returns-clause-served g c = rw (← c.self.view_is) (serves-kept c.self.invariant)
+
 pub returns-clause-bounded : goal.returns-clause-bounded
 returns-clause-bounded g c = rw (← c.self.view_is) (waits-kept c.self.invariant)
 
@@ -80,6 +84,7 @@ returns-then-self g c =
       planned = tt;
       advancing = tt;
       bounded = tt;
+      served = tt;
       next = tt;
       arrivals = λ laws k. k;
       farewells = λ spare k. k;
@@ -104,6 +109,7 @@ returns-in_err-opening g c =
       planned = tt;
       advancing = tt;
       bounded = tt;
+      served = tt;
       next = tt;
       arrivals = λ laws k. k;
       farewells = λ spare k. k;

@@ -11,4 +11,4 @@ invariant_of-result g c =
     rw c.new.ensures.items (subst (λ (laws : HookLaws). IsKept c.args.grid c.args.limits laws.ties 0 (start b.opening) b.state b.planner b.mailboxes) (sym c.laws.view_is) c.in-Ok.ensures.kept)
 
 pub returns-in-Ok : goal.returns-in-Ok
-returns-in-Ok g c = rw (c.new.ensures.items, c.in-Ok.ensures.opening, c.as_slice.ensures.value, c.in-Ok.ensures.mailboxes, ← c.laws.view_is) refl
+returns-in-Ok g c = rw (c.new.ensures.items, c.in-Ok.ensures.opening, c.as_slice.ensures.value, c.in-Ok.ensures.mailboxes, c.in-Ok.ensures.plain, ← c.laws.view_is) refl

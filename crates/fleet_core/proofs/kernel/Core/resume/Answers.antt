@@ -17,4 +17,4 @@ invariant_of-result g c =
     (kept-resumed c.args.grid c.args.number c.args.opening c.args.limits c.args.laws b.state b.planner b.mailboxes c.requires c.in-Ok.ensures))
 
 pub returns-in-Ok : goal.returns-in-Ok
-returns-in-Ok g c = rw (c.new.ensures.items, c.in-Ok.ensures.boxes, ← c.laws.view_is) refl
+returns-in-Ok g c = rw (c.new.ensures.items, c.in-Ok.ensures.boxes, c.in-Ok.ensures.plain, ← c.laws.view_is) refl

@@ -16,6 +16,6 @@ returns-clause-above g c =
     let m = c.self.inside.grid in
     let h = history_of c.self.inside.chapter in
     rw (← c.self.view_is)
-    (λ has. limit-above m h (Some c.idle_ticks.result)
+    (λ none has. limit-above m h (Some c.idle_ticks.result)
     (limit-is c.idle_ticks.result c.robots.result c.floor_count.result (robots h) (floor_count m) c.idle_ticks.ensures (c.robots.ensures.of m h c.self.invariant.is) c.floor_count.ensures)
-    (λ some. waits-kept c.self.invariant has))
+    (λ some. waits-kept c.self.invariant none has))

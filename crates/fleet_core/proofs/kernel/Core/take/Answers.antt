@@ -3,7 +3,8 @@ use Rattle.std.proofs.lemmas.Result.{err_from_is_err_and}
 use Rattle.fleet_history.specs.declared.history.Entry.TheVariants as entry
 use Rattle.fleet_history.specs.History.{history_of, clients}
 use Rattle.fleet_history.proofs.Legal.{legal-placement}
-use Rattle.fleet_state.proofs.Parts.{cells-of, tally-count}
+use Rattle.fleet_state.proofs.Parts.{cells-of, queue-count, tally-count}
+use Rattle.mover.specs.Moving.{HasTurns}
 use Rattle.fleet_bound.proofs.Errands.{accepted-gone}
 use Rattle.fleet_core.specs.Core.{HasRoom, HasEntries}
 use Rattle.fleet_core.specs.Hooks.{AreFarewells}
@@ -26,9 +27,12 @@ judge-verdict-requires-clause-placed g c = rw (cells-of c.self.invariant.is) (le
 
 pub make_begun-requires : goal.make_begun-requires
 make_begun-requires g c = record {
-  may = record { history = history_of c.self.inside.chapter; is = c.self.invariant.is; aimed = c.self.invariant.aimed };
-  client = c.args.client;
-  verdict = c.judge-verdict.ensures.verdict (history_of c.self.inside.chapter) c.self.invariant.is;
+  may = record {
+    may = record { history = history_of c.self.inside.chapter; is = c.self.invariant.is; aimed = c.self.invariant.aimed };
+    client = c.args.client;
+    verdict = c.judge-verdict.ensures.verdict (history_of c.self.inside.chapter) c.self.invariant.is;
+  };
+  turns = subst (λ n. HasTurns c.self.inside.grid n c.self.inside.planner.turns) (sym (queue-count c.self.invariant.is)) c.self.invariant.turns;
 }
 
 -- refused
@@ -49,7 +53,7 @@ returns-in_err-make_begun g c =
       entries = tt;
       ok = tt;
       arrives = tt;
-      err = rw c.make_begun.ensures.items c.self.view_is;
+      err = rw (c.make_begun.ensures.items, c.make_begun.ensures.same.turns) c.self.view_is;
       farewells = λ spare a. rw c.make_begun.ensures.items (subst (λ w. AreFarewells w.history spare) (sym c.self.view_is) a);
     }
 
@@ -148,7 +152,7 @@ returns-clause-ok g c =
     let is = c.judge-verdict.ensures.verdict h k.is in
     let next = c.enter_take.ensures.follows c.self.inside.grid h k.is (known, is) in
     rw (← c.self.view_is, c.add.ensures, c.make_begun.ensures.items, c.push_verdict.ensures)
-    (takes-so k c.args.client known c.args.order c.judge-verdict.result is c.taken-order_no.result (c.taken-order_no.ensures c.self.inside.grid _ next))
+    (takes-so k c.args.client known c.args.order c.judge-verdict.result is c.taken-order_no.result (c.taken-order_no.ensures c.self.inside.grid _ next) c.make_begun.ensures.same)
 
 pub returns-clause-farewells : goal.returns-clause-farewells
 returns-clause-farewells g c spare a =

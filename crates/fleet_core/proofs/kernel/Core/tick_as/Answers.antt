@@ -6,6 +6,7 @@ use Rattle.fleet_hooks.specs.declared.law.TieLaw.{TieLaw}
 use Rattle.fleet_history.specs.declared.history.Entry.TheVariants as entry
 use Rattle.fleet_history.specs.History.{history_of, clock, after}
 use Rattle.fleet_history.specs.Legal.{IsTickAfter}
+use Rattle.mover.specs.Moving.{HasTurns}
 use Rattle.fleet_state.specs.Follows.{MayTick}
 use Rattle.fleet_state.specs.State.{IsStateOf}
 use Rattle.fleet_state.proofs.Parts.{cell-count, queue-count}
@@ -24,6 +25,9 @@ use Rattle.fleet_core.proofs.kernel.Core.tick_as.Goals.{After-stamp_as-report, A
 
 pub ready-requires-clause-may : goal.ready-requires-clause-may
 ready-requires-clause-may g c = record { history = history_of c.self.inside.chapter; is = c.self.invariant.is; aimed = c.self.invariant.aimed }
+
+pub ready-requires-clause-turns : goal.ready-requires-clause-turns
+ready-requires-clause-turns g c = subst (λ n. HasTurns c.self.inside.grid n c.self.inside.planner.turns) (sym (queue-count c.self.invariant.is)) c.self.invariant.turns
 
 pub ready-requires-clause-tied : goal.ready-requires-clause-tied
 ready-requires-clause-tied g c =
@@ -45,11 +49,11 @@ stamp_as-report-requires g c =
 
 -- the step is planned by what is kept
 step_is : (g : _) (c : After-stamp_as-report g) →
-    IsStep c.self.inside.grid c.self.inside.ties.items c.self.inside.state (goals_of c.self.inside.planner.aims) c.stamp_as-report.new.self.to.items c.in_ok-step.step.arrived.items c.in_ok-step.step.leaving.items
+    IsStep c.self.inside.grid c.self.inside.planner.turns c.self.inside.ties.items c.self.inside.state (goals_of c.self.inside.planner.planner.aims) c.stamp_as-report.new.self.to.items c.in_ok-step.step.arrived.items c.in_ok-step.step.leaving.items
 step_is g c =
     let laws : map (λ h. h.law) c.args.ties.now ≡ c.self.inside.ties.items = c.requires.ties ∙ ap (λ w. w.ties) (sym c.self.view_is) in
-    subst (λ (to : List ℕ). IsStep c.self.inside.grid c.self.inside.ties.items c.self.inside.state (goals_of c.self.inside.planner.aims) to c.in_ok-step.step.arrived.items c.in_ok-step.step.leaving.items) (sym {A = List ℕ} c.stamp_as-report.ensures.to)
-    (subst (λ (ties : List TieLaw). IsStep c.self.inside.grid ties c.self.inside.state (goals_of c.self.inside.planner.aims) c.in_ok-step.step.to.items c.in_ok-step.step.arrived.items c.in_ok-step.step.leaving.items) laws c.in_ok-step.ensures.step)
+    subst (λ (to : List ℕ). IsStep c.self.inside.grid c.self.inside.planner.turns c.self.inside.ties.items c.self.inside.state (goals_of c.self.inside.planner.planner.aims) to c.in_ok-step.step.arrived.items c.in_ok-step.step.leaving.items) (sym {A = List ℕ} c.stamp_as-report.ensures.to)
+    (subst (λ (ties : List TieLaw). IsStep c.self.inside.grid c.self.inside.planner.turns ties c.self.inside.state (goals_of c.self.inside.planner.planner.aims) c.in_ok-step.step.to.items c.in_ok-step.step.arrived.items c.in_ok-step.step.leaving.items) laws c.in_ok-step.ensures.step)
 
 closures_are : (g : _) (c : After-stamp_as-report g) →
     AreClosures (history_of c.self.inside.chapter) (laws_as c.args.least (history_of c.self.inside.chapter).opening.robots (map (λ h. h.law) c.args.arrivals.now))
@@ -141,7 +145,7 @@ returns-clause-answer g c =
       early = early;
       entries = room;
       ok = rw (← c.self.view_is, c.add.ensures, c.ready.ensures.items, c.tick_entry.ensures)
-          (ticks-so k (fits_is g p) (planned-so k (step_is g p)) (c.clock-tick.result + 1) tick (told_is g a) c.stamp_as-report.ensures.report);
+          (ticks-so k (fits_is g p) (planned-so k (step_is g p)) (c.clock-tick.result + 1) tick (told_is g a) c.ready.ensures.same c.stamp_as-report.ensures.report);
       err = tt;
     }
 
@@ -213,7 +217,7 @@ returns-in_err-step g c =
         early = tt;
         entries = tt;
         ok = tt;
-        err = rw c.ready.ensures.items c.self.view_is;
+        err = rw (c.ready.ensures.items, c.ready.ensures.same.turns) c.self.view_is;
       };
       farewells = λ e. rw c.ready.ensures.items (subst (λ w. AreFarewells w.history (spare_laws c.args.farewells.now.items)) (sym c.self.view_is) (c.requires.closures e).farewells);
       lowest = λ yes e. rw c.ready.ensures.items (λ same. absurd (not-grown c.args.self.now.history e (ap (λ w. w.history) (sym c.self.view_is) ∙ same)));

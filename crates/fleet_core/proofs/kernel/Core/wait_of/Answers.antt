@@ -14,8 +14,8 @@ pub returns-clause-wait : goal.returns-clause-wait
 returns-clause-wait g c = rw (← c.self.view_is) (c.wait_of.ensures c.self.inside.grid (history_of c.self.inside.chapter) c.self.invariant.is)
 
 pub returns-clause-bounded : goal.returns-clause-bounded
-returns-clause-bounded g c = rw (← c.self.view_is) (λ has.
+returns-clause-bounded g c = rw (← c.self.view_is) (λ none has.
     let h = history_of c.self.inside.chapter in
     let known : c.args.robot < robots h = subst (λ w. c.args.robot < robots w.history) (sym c.self.view_is) c.requires in
     let is = c.wait_of.ensures c.self.inside.grid h c.self.invariant.is in
-    if-below c.wait_of.result (wait_bound c.self.inside.grid h) (λ w e. waits-kept c.self.invariant has c.args.robot w known (sym is ∙ e)))
+    if-below c.wait_of.result (wait_bound c.self.inside.grid h) (λ w e. waits-kept c.self.invariant none has c.args.robot w known (sym is ∙ e)))

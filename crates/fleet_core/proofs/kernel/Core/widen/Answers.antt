@@ -23,6 +23,7 @@ invariant_of-self g c =
       within = k.within;
       boxed = either-way c.widen.result (AreBoxes h) c.widen.new.self _ c.self.inside.mailboxes c.widen.ensures.ok c.widen.ensures.err (boxes-with k.is.legal k.boxed c.args.client _ known (omega arith) (omega arith)) k.boxed;
       aimed = k.aimed;
+      turns = k.turns;
       tied = k.tied;
       bounded = k.bounded;
     }
@@ -34,12 +35,12 @@ pub returns-clause-ok : goal.returns-clause-ok
 returns-clause-ok g c =
     rw (← c.self.view_is)
     (on_ok_map c.widen.result
-    (λ e. ap (λ (x : Mailboxes). record { floor = c.self.inside.grid; limits = c.self.inside.limits; ties = c.self.inside.ties.items; number = c.self.inside.chapter.number; history = history_of c.self.inside.chapter; mailboxes = x.boxes }) e)
+    (λ e. ap (λ (x : Mailboxes). record { floor = c.self.inside.grid; limits = c.self.inside.limits; ties = c.self.inside.ties.items; turns = c.self.inside.planner.turns; number = c.self.inside.chapter.number; history = history_of c.self.inside.chapter; mailboxes = x.boxes }) e)
     c.widen.ensures.ok)
 
 pub returns-clause-err : goal.returns-clause-err
 returns-clause-err g c =
     rw (← c.self.view_is)
     (on_err_map c.widen.result
-    (λ e. ap (λ (x : Mailboxes). record { floor = c.self.inside.grid; limits = c.self.inside.limits; ties = c.self.inside.ties.items; number = c.self.inside.chapter.number; history = history_of c.self.inside.chapter; mailboxes = x.boxes }) e)
+    (λ e. ap (λ (x : Mailboxes). record { floor = c.self.inside.grid; limits = c.self.inside.limits; ties = c.self.inside.ties.items; turns = c.self.inside.planner.turns; number = c.self.inside.chapter.number; history = history_of c.self.inside.chapter; mailboxes = x.boxes }) e)
     c.widen.ensures.err)

@@ -9,6 +9,7 @@ returns g c = record {
   planned = c.next_chapter.ensures.planned;
   advancing = c.next_chapter.ensures.advancing;
   bounded = c.next_chapter.ensures.bounded;
+  served = c.next_chapter.ensures.served;
   next = c.next_chapter.ensures.next;
   err = c.next_chapter.ensures.err;
 }

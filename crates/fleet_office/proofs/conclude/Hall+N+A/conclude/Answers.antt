@@ -1,8 +1,9 @@
-use Rattle.std.proofs.Common.{ℕ, List, ◌≡◌, length, sym, ap, ◌∙◌, subst, arith, inl, inr}
+use Rattle.std.proofs.Common.{ℕ, List, Option, ◌≡◌, length, sym, ap, ◌∙◌, subst, arith, inl, inr}
 use Rattle.fleet_history.specs.History.{history_of, clock}
 use Rattle.fleet_history.specs.Laws.{EachTick}
-use Rattle.fleet_planner.specs.Planned.{IsPlanned}
-use Rattle.fleet_core.specs.Core.{World}
+use Rattle.turns_law.specs.Turns.{Turns}
+use Rattle.mover.specs.Moving.{IsPlannedAs}
+use Rattle.fleet_core.specs.Core.{World, ServesInTurns}
 use Rattle.fleet_office.specs.Hall.{HallView}
 use Rattle.fleet_office.specs.Views.{ClientCore, AreOn, AreDistinct, AreSettled, cores}
 use Rattle.fleet_office.specs.Draining.{DrainsFirst}
@@ -96,6 +97,16 @@ returns-clause-drains g c =
     let frame = first_frame count hall.ends (cores items) hall.world last drains in
     record { world = last; drains = drains; floor = f.floor ∙ frame.0; number = f.number ∙ frame.2; history = f.history }
 
+-- no turns changed
+turns_are : (g : _) (c : goal.After-drop-hall-3 g) → c.wind_down.new.self.world.turns ≡ c.args.self.state.world.turns
+turns_are g c =
+    let count = length g.N.OfficeName.rings in
+    let last = c.wind_down.new.self.world in
+    let hall = c.args.self.state in
+    let items = c.args.clients.items in
+    let drains = begun_with count c.see_home.new.self hall (cores c.as_mut_slice.result.now) (cores items) last c.see_home.ensures.same (ap cores c.as_mut_slice.ensures.value) c.in-Ok.ensures.drains in
+    (first_frame count hall.ends (cores items) hall.world last drains).3
+
 pub returns-clause-planned : goal.returns-clause-planned
 returns-clause-planned g c =
     let count = length g.N.OfficeName.rings in
@@ -104,7 +115,8 @@ returns-clause-planned g c =
     let hall = c.args.self.state in
     let items = c.args.clients.items in
     let drains = begun_with count c.see_home.new.self hall (cores c.as_mut_slice.result.now) (cores items) last c.see_home.ensures.same (ap cores c.as_mut_slice.ensures.value) c.in-Ok.ensures.drains in
-    subst (λ t. EachTick (IsPlanned f.result.grid t) (history_of f.result.chapter)) (first_frame count hall.ends (cores items) hall.world last drains).1 f.ensures.planned
+    subst (λ u. EachTick (IsPlannedAs u f.result.grid hall.world.ties) (history_of f.result.chapter)) (turns_are g c)
+    (subst (λ t. EachTick (IsPlannedAs last.turns f.result.grid t) (history_of f.result.chapter)) (first_frame count hall.ends (cores items) hall.world last drains).1 f.ensures.planned)
 
 pub returns-clause-told : goal.returns-clause-told
 returns-clause-told g c =
@@ -134,6 +146,7 @@ returns-in-Err g c =
       planned = tt;
       advancing = tt;
       bounded = tt;
+      served = tt;
       told = tt;
       tick = tt;
       all = tt;
@@ -147,7 +160,7 @@ pub returns-clause-legal : goal.returns-clause-legal
 returns-clause-legal g c = c.finish.ensures.legal
 
 pub returns-clause-advancing : goal.returns-clause-advancing
-returns-clause-advancing g c = c.finish.ensures.advancing
+returns-clause-advancing g c = λ none. c.finish.ensures.advancing (turns_are g c ∙ none)
 
 pub returns-clause-tick : goal.returns-clause-tick
 returns-clause-tick g c =
@@ -170,10 +183,18 @@ pub returns-clause-on : goal.returns-clause-on
 returns-clause-on g c = tt
 
 pub returns-clause-bounded : goal.returns-clause-bounded
-returns-clause-bounded g c = c.finish.ensures.bounded
+returns-clause-bounded g c = λ none. c.finish.ensures.bounded (turns_are g c ∙ none)
+
+pub returns-clause-served : goal.returns-clause-served
+returns-clause-served g c =
+    let f = c.finish in
+    subst (λ (u : Option Turns). ServesInTurns u f.result.grid (history_of f.result.chapter)) (turns_are g c) f.ensures.served
 
 pub returns-in-Err-wind_down-clause-bounded : goal.returns-in-Err-wind_down-clause-bounded
 returns-in-Err-wind_down-clause-bounded g c = tt
+
+pub returns-in-Err-wind_down-clause-served : goal.returns-in-Err-wind_down-clause-served
+returns-in-Err-wind_down-clause-served g c = tt
 
 pub returns-in-Err-wind_down-clause-on : goal.returns-in-Err-wind_down-clause-on
 returns-in-Err-wind_down-clause-on g c =

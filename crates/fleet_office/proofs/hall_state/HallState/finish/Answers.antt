@@ -5,7 +5,7 @@ use Rattle.fleet_history.specs.History.{history_of, clock}
 use Rattle.fleet_office.specs.Views.{AreDistinct, AreSettled, core, cores}
 use Rattle.fleet_office.specs.inside.Leftovers.{AreRooms, LeftoversAre}
 use Rattle.fleet_office.proofs.Places.{map_at}
-use Rattle.fleet_office.proofs.Ended.{planned-ended, advancing-ended, bounded-ended, told-ended}
+use Rattle.fleet_office.proofs.Ended.{planned-ended, advancing-ended, bounded-ended, served-ended, told-ended}
 use Rattle.fleet_office.proofs.hall_state.HallState.finish.Goals as goal
 
 pub fill-requires-clause-inside : goal.fill-requires-clause-inside
@@ -35,12 +35,17 @@ returns-clause-planned g c =
 pub returns-clause-advancing : goal.returns-clause-advancing
 returns-clause-advancing g c =
     let f = c.finish-grid in
-    advancing-ended c.self.inside.core c.fill.new.core f.result.0 (history_of f.result.1) f.ensures.floor f.ensures.history c.fill.ensures.core f.ensures.advancing
+    rw (← c.self.view_is) (advancing-ended c.self.inside.core c.fill.new.core f.result.0 (history_of f.result.1) f.ensures.floor f.ensures.history c.fill.ensures.core f.ensures.advancing)
 
 pub returns-clause-bounded : goal.returns-clause-bounded
 returns-clause-bounded g c =
     let f = c.finish-grid in
-    bounded-ended c.self.inside.core c.fill.new.core f.result.0 (history_of f.result.1) f.ensures.floor f.ensures.history c.fill.ensures.core f.ensures.bounded
+    rw (← c.self.view_is) (bounded-ended c.self.inside.core c.fill.new.core f.result.0 (history_of f.result.1) f.ensures.floor f.ensures.history c.fill.ensures.core f.ensures.bounded)
+
+pub returns-clause-served : goal.returns-clause-served
+returns-clause-served g c =
+    let f = c.finish-grid in
+    rw (← c.self.view_is) (served-ended c.self.inside.core c.fill.new.core f.result.0 (history_of f.result.1) f.ensures.floor f.ensures.history c.fill.ensures.core f.ensures.served)
 
 pub returns-clause-told : goal.returns-clause-told
 returns-clause-told g c =

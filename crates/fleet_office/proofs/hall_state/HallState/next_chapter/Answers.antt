@@ -21,6 +21,7 @@ returns g c =
       planned = e.planned;
       advancing = e.advancing;
       bounded = e.bounded;
+      served = e.served;
       next = hall-next s.core n.new.self s.ends.items s.book.total n.result e.next;
       err = hall-stays s.core n.new.self s.ends.items s.book.total n.result e.err;
     }

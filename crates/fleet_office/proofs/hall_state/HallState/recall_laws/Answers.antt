@@ -4,4 +4,4 @@ pub returns : goal.returns
 returns g c =
     let e = c.chapter.ensures in
     rw (← c.self.view_is)
-    record { lawful = c.self.invariant; planned = e.planned; advancing = e.advancing; bounded = e.bounded; keeps_bound = e.keeps_bound }
+    record { lawful = c.self.invariant; planned = e.planned; advancing = e.advancing; bounded = e.bounded; served = e.served; keeps_bound = e.keeps_bound }

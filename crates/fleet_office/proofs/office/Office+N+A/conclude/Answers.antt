@@ -1,9 +1,12 @@
-use Rattle.std.proofs.Common.{length}
+use Rattle.std.proofs.Common.{◌≡◌, None, length}
 use Rattle.fleet_history.specs.History.{history_of}
+use Rattle.fleet_bound.specs.Bound.{WaitsAreBounded}
+use Rattle.fleet_bound.specs.Roomy.{AdvancesIfRoomy, HasBound}
+use Rattle.fleet_core.specs.Core.{ServesInTurns}
 use Rattle.fleet_office.specs.Hall.{IsLawful}
 use Rattle.fleet_office.specs.Views.{cores}
 use Rattle.fleet_office.specs.Concluded.{IsLast, IsUnconcluded}
-use Rattle.fleet_office.proofs.Ended.{last-since, last-planned}
+use Rattle.fleet_office.proofs.Ended.{last-as, last-since, last-planned}
 use Rattle.fleet_office.proofs.Over.{some-kind, some-fault, ok-kind}
 use Rattle.fleet_office.proofs.office.Office+N+A.conclude.Goals as goal
 
@@ -19,9 +22,10 @@ returns g c =
       drains = some-kind (λ h. IsLawful rings began h.world h.ends h.total) (λ h f. IsLast (length rings) h (cores c.args.clients.items) f.grid f.chapter.number (history_of f.chapter)) hall r lawful e.drains;
       legal = e.legal;
       since = last-since began (length rings) hall (cores c.args.clients.items) r (λ f. f.grid) (λ f. f.chapter.number) (λ f. history_of f.chapter) lawful.since e.drains;
-      planned = last-planned began hall.world r (λ f. f.grid) (λ f. history_of f.chapter) lawful.since.ties e.planned;
-      advancing = e.advancing;
-      bounded = e.bounded;
+      planned = last-planned began hall.world r (λ f. f.grid) (λ f. history_of f.chapter) lawful.since.ties lawful.since.turns e.planned;
+      advancing = last-as began hall.world r (λ turns f. turns ≡ None → AdvancesIfRoomy f.grid (history_of f.chapter)) lawful.since.turns e.advancing;
+      bounded = last-as began hall.world r (λ turns f. turns ≡ None → HasBound f.grid (history_of f.chapter) → WaitsAreBounded f.grid (history_of f.chapter)) lawful.since.turns e.bounded;
+      served = last-as began hall.world r (λ turns f. ServesInTurns turns f.grid (history_of f.chapter)) lawful.since.turns e.served;
       told = e.told;
       tick = e.tick;
       all = e.all;

@@ -13,7 +13,7 @@ returns-then-not-posted g c =
     let many = c.requires.whole.notes in
     record {
       ok = λ sp there. posts-from c.args.place.to sp (under c.args.place.line.mark) c.args.client c.args.order (string_bytes c.in_ok-text.text) c.as_str.result.now c.in_ok-text.posted c.index_mut-note.result.now c.post_answered.new.note s _ two two
-          (omega (arith, c.requires.client, many)) c.index_mut-note.ensures.value c.in_ok-text.ensures refl refl refl c.as_str.ensures.value (c.in_ok-say.ensures.ok sp there) (λ posted good. settles-not posted two (sym good ∙ c.if-not-posted.true));
+          (omega (arith, c.requires.client, many)) c.index_mut-note.ensures.value c.in_ok-text.ensures refl refl refl refl c.as_str.ensures.value (c.in_ok-say.ensures.ok sp there) (λ posted good. settles-not posted two (sym good ∙ c.if-not-posted.true));
     }
 
 pub returns : goal.returns
@@ -25,5 +25,5 @@ returns g c =
     record {
       ok = on_ok_weaker c.settle.result
           (λ settled sp there. posts-from c.args.place.to sp (under c.args.place.line.mark) c.args.client c.args.order (string_bytes c.in_ok-text.text) c.as_str.result.now c.in_ok-text.posted c.index_mut-note.result.now c.post_answered.new.note s _ two t
-          (omega (arith, c.requires.client, many)) c.index_mut-note.ensures.value c.in_ok-text.ensures refl refl refl c.as_str.ensures.value (c.in_ok-say.ensures.ok sp there) (λ posted good. settles-then posted two t (sym good ∙ c.if-not-posted.false) settled)) c.settle.ensures.ok;
+          (omega (arith, c.requires.client, many)) c.index_mut-note.ensures.value c.in_ok-text.ensures refl refl refl refl c.as_str.ensures.value (c.in_ok-say.ensures.ok sp there) (λ posted good. settles-then posted two t (sym good ∙ c.if-not-posted.false) settled)) c.settle.ensures.ok;
     }

@@ -11,8 +11,10 @@ use Rattle.fleet_world.specs.Keeps.{talk}
 use Rattle.fleet_world.specs.Talk.{opened_talk}
 use Rattle.fleet_talk.specs.Conversation.{clients_in, laws_in, limits_in}
 use Rattle.fleet_talk.specs.Heading.{drafted}
+use Rattle.fleet_talk.proofs.Doors.{ok-by}
+use Rattle.fleet_talk.proofs.Manners.{fresh-opened}
 use Rattle.fleet_talk.proofs.Starting.{unwrapped, in-terms}
-use Rattle.fleet_talk.proofs.conversation.open.Goals as goal
+use Rattle.fleet_talk.proofs.opening.open.Goals as goal
 
 pub returns-clause-refused : goal.returns-clause-refused
 returns-clause-refused g c starts is fault named =
@@ -53,3 +55,7 @@ returns-clause-ok g c starts is =
     (first_laws (λ x. x.law) c.len.result c.choose.result.farewells.items c.cut-hooks.result.farewells.items c.cut-hooks.ensures.farewells)) in
     in-terms (λ s n l h. IfOk c.open.result (λ s2. talk s2 ≡ opened_talk c.args.grid s n l h)) c.unwrap_or-starts.result.items starts c.unwrap_or-clients.result (clients_in (drafted c.args.head)) c.limits_over.result (limits_in (drafted c.args.head)) (laws_of c.cut-hooks.result) (laws_in (kit_laws c.args.kit) (drafted c.args.head) starts)
     cells c.unwrap_or-clients.ensures c.limits_over.ensures laws c.open.ensures.ok
+
+pub returns-clause-fresh : goal.returns-clause-fresh
+returns-clause-fresh g c =
+    ok-by c.open.result _ _ (λ s2 same. fresh-opened (talk s2) c.args.grid c.unwrap_or-starts.result.items c.unwrap_or-clients.result c.limits_over.result (laws_of c.cut-hooks.result) same) c.open.ensures.ok

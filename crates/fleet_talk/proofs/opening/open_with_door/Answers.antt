@@ -11,7 +11,8 @@ use Rattle.fleet_talk.specs.Conversation.{clients_in, laws_in, limits_in}
 use Rattle.fleet_talk.specs.Door.{AreRefused}
 use Rattle.fleet_talk.specs.Heading.{drafted}
 use Rattle.fleet_talk.proofs.Doors.{door-for, fault-of, known-for, ok-by, ok-by2, ok-of, robots-named}
-use Rattle.fleet_talk.proofs.conversation.open_with_door.Goals as goal
+use Rattle.fleet_talk.proofs.Manners.{fresh-as}
+use Rattle.fleet_talk.proofs.opening.open_with_door.Goals as goal
 
 pub returns-in-Ok-clause-can : goal.returns-in-Ok-clause-can
 returns-in-Ok-clause-can g c starts is = ok-of c.with_door.result _ (c.in-Ok.ensures.can starts is)
@@ -36,3 +37,6 @@ returns-in-Ok-clause-known g c =
     ok-by2 c.with_door.result _ _ _
     (λ r found same. known-for c.args.ground.grid r.0.world.core.floor c.door_for-door.result r.1 found (ap (λ (t : Talk Global). t.world.floor) same ∙ c.in-Ok.ensures.floor) c.door_for-door.ensures.roominess)
     c.with_door.ensures.door c.with_door.ensures.session
+
+pub returns-in-Ok-clause-fresh : goal.returns-in-Ok-clause-fresh
+returns-in-Ok-clause-fresh g c = ok-by c.with_door.result _ _ (λ r same. fresh-as (talk r.0) (talk c.in-Ok.session) same c.in-Ok.ensures.fresh) c.with_door.ensures.session

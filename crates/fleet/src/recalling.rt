@@ -1,0 +1,57 @@
+//! What clients were told before a fleet was started again.
+
+use crate::folder::Found;
+use crate::kept_file::{KeptFile, file_of};
+use crate::recovering::recover;
+use fleet_lib::{InputFault, Live, Recalls, fail, recall_in, recall_trace};
+use std::alloc::{Alloc, AllocError, Global};
+use std::fs::Files;
+use std::io::Write;
+
+/// How many bytes of chapters are read for it, the last one of them whole.
+const MOST_READ: usize = 67_108_864;
+
+/// The notices that the last chapters of a folder tell, of each client so many at most.
+fn recalls_of<R: Files + Alloc<A = Global>>(
+    rt: &R,
+    folder: &str,
+    kept: &Option<KeptFile>,
+    most: usize,
+) -> Result<Recalls, AllocError> {
+    let alloc = rt.alloc();
+    let mut recalls = Recalls::new(alloc, most);
+    let Some(last) = kept else {
+        return Ok(recalls);
+    };
+    if most == 0 {
+        return Ok(recalls);
+    }
+    let mut read = last.text().len();
+    let mut wants = recall_trace(alloc, &mut recalls, last.text())?;
+    let mut number = last.number();
+    while wants && number > 0 && read < MOST_READ {
+        number -= 1;
+        let Ok(file) = file_of(rt, folder, number) else {
+            return Ok(recalls);
+        };
+        read = read.saturating_add(file.text().len());
+        wants = recall_trace(alloc, &mut recalls, file.text())?;
+    }
+    Ok(recalls)
+}
+
+/// What the fleet of these words goes on from on the map, and what its clients were told before. The error is the
+/// status, and is said.
+pub(crate) fn past_of<R: Files + Alloc<A = Global>, E: Write + Drop, G: Write>(
+    rt: &R,
+    (live, map): (&Live, &[u8]),
+    found: Found,
+    (error, said): (E, &mut G),
+) -> Result<(Option<KeptFile>, Recalls), u8> {
+    let (folder, mut error) = (live.traces.as_deref().unwrap_or(""), error);
+    let kept = recover(rt, (map, folder), found, &mut error, said)?;
+    match recalls_of(rt, folder, &kept, recall_in(live).unwrap_or(0)) {
+        Ok(recalls) => Ok((kept, recalls)),
+        Err(AllocError) => Err(fail(InputFault::NoMemory, said)),
+    }
+}

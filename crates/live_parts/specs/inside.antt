@@ -1,0 +1,2 @@
+-- For the crate's own proofs; no public contract uses it.
+pub mod Making
