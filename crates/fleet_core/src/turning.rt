@@ -1,6 +1,6 @@
 //! Robots that take turns.
 
-ghost use Rattle.std.specs.Prelude.{◌≡◌, [], OnOk, OnErr};
+ghost use Rattle.std.specs.Prelude.{◌≡◌, [], OnOk, OnErr, is_some};
 ghost use Rattle.fleet_core.specs.Core.{TakesTurns};
 
 use crate::kernel::Core;
@@ -27,6 +27,13 @@ impl<A: Allocator + Copy> Core<A> {
         mem::drop(mem::replace(&mut self.planner, planner));
         Ok(())
     }
+
+    /// Whether the robots take turns.
+    pub fn takes_turns(&self) -> bool
+        ensures { result ≡ is_some self.now.turns }
+    {
+        self.planner.takes_turns()
+    }
 }
 
 impl<A: Allocator + Copy> World<A> {
@@ -37,5 +44,12 @@ impl<A: Allocator + Copy> World<A> {
         ensures refused { OnErr result (self.new.core ≡ self.old.core) }
     {
         self.core.take_turns()
+    }
+
+    /// Whether the robots take turns.
+    pub fn takes_turns(&self) -> bool
+        ensures { result ≡ is_some self.now.core.turns }
+    {
+        self.core.takes_turns()
     }
 }

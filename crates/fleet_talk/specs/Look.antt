@@ -25,13 +25,19 @@ pub record IsBlocked {A : Type 0} (w : World A) (eldest : Option ℕ) (blocked :
       (HasWayAhead w.floor (place w.history) errand.cell (slice_index (place w.history) e))
       (λ c. IsNearer w.floor errand.cell c (slice_index (place w.history) e) × IsFullBeyond w.floor (place w.history) (slice_index (place w.history) e) c)
 
--- the line of a look at this world
+-- what is known of the ticks to come, where robots do not take turns: after how many the fleet is idle if nothing is ordered, and the cell before
+-- the eldest robot in a dead end that is full
+pub record IsForeseen {A : Type 0} (w : World A) (eldest within blocked : Option ℕ) : Type 0 where
+  pub told : IsSome within ↔ AreOpenRoomy w.floor w.history
+  pub ticks : IfSome within (λ ticks. ticks ≡ idle_ticks (longest_after w.history) (robots w.history) (floor_count w.floor))
+  pub ahead : IsBlocked w eldest blocked
+
+-- the line of a look at this world: of robots that take turns nothing is foreseen
 pub record IsLook {A : Type 0} (w : World A) (text : List ℕ) : Type 0 where
   pub eldest : Option ℕ
   pub oldest : MatchOption eldest (IsIdle w.history) (λ e. IsEldest (waits w.history) e)
   pub within : Option ℕ
-  pub told : IsSome within ↔ AreOpenRoomy w.floor w.history
-  pub ticks : IfSome within (λ ticks. ticks ≡ idle_ticks (longest_after w.history) (robots w.history) (floor_count w.floor))
   pub blocked : Option ℕ
-  pub ahead : IsBlocked w eldest blocked
+  pub plain : w.turns ≡ None → IsForeseen w eldest within blocked
+  pub turns : IsSome w.turns → (within ≡ None) × (blocked ≡ None)
   pub is : text ≡ look_line (standing_of w eldest within blocked) (place w.history)

@@ -1,6 +1,6 @@
 //! A planner of a chosen manner.
 
-ghost use Rattle.std.specs.Prelude.{◌≡◌, ◌<◌, ◌≤◌, ◌+◌, ◌^◌, ℕ, true, false, length, map, IfOk, OnOk, OnErr};
+ghost use Rattle.std.specs.Prelude.{◌≡◌, ◌<◌, ◌≤◌, ◌+◌, ◌^◌, ℕ, true, false, is_some, length, map, IfOk, OnOk, OnErr};
 ghost use Rattle.fleet_field.specs.FieldCache.{bytes_kept};
 ghost use Rattle.fleet_field.specs.Store.{Keeps};
 ghost use Rattle.fleet_grid.specs.Floor.{Floor, IsNeighbour};
@@ -87,6 +87,16 @@ impl<A: Allocator + Copy> Mover<A> {
         match &self.kind {
             Kind::Plain(planner) => planner.is_bridgeless(),
             Kind::Turns(_fleet) => false,
+        }
+    }
+
+    /// Whether the robots take turns.
+    pub fn takes_turns(&self) -> bool
+        ensures { result ≡ is_some self.now.turns }
+    {
+        match &self.kind {
+            Kind::Plain(_planner) => false,
+            Kind::Turns(_fleet) => true,
         }
     }
 

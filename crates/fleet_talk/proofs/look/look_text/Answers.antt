@@ -11,18 +11,17 @@ returns g c =
     (λ text is. record {
       eldest = c.eldest-eldest.result;
       oldest = c.eldest-eldest.ensures;
-      within = c.roomy_within.result;
-      told = c.roomy_within.ensures.told c.requires;
-      ticks = c.roomy_within.ensures.exact;
-      blocked = c.in_ok-blocked_ahead.field-0;
-      ahead = c.in_ok-blocked_ahead.ensures;
-      is = is ∙ same_line c.eldest-eldest.result c.roomy_within.result c.in_ok-blocked_ahead.field-0 c.clock.ensures c.chapter-chapter.ensures.number
+      within = c.in_ok-foreseen.field-0.within;
+      blocked = c.in_ok-foreseen.field-0.blocked;
+      plain = c.in_ok-foreseen.ensures.plain;
+      turns = c.in_ok-foreseen.ensures.turns;
+      is = is ∙ same_line c.eldest-eldest.result c.in_ok-foreseen.field-0.within c.in_ok-foreseen.field-0.blocked c.clock.ensures c.chapter-chapter.ensures.number
           (c.len.ensures ∙ (c.chapter-chapter.result.now.entries.ok.0 ∙ ap (λ h. length h.entries) c.chapter-chapter.ensures.history)) c.placement.ensures;
     }) c.look_line.ensures
 
-pub blocked_ahead-requires-clause-known : goal.blocked_ahead-requires-clause-known
-blocked_ahead-requires-clause-known g c e is = at-eldest c.args.world.now.core.history c.eldest-eldest.result e c.eldest-eldest.ensures is
+pub foreseen-requires-clause-known : goal.foreseen-requires-clause-known
+foreseen-requires-clause-known g c e is = at-eldest c.args.world.now.core.history c.eldest-eldest.result e c.eldest-eldest.ensures is
 
-pub blocked_ahead-requires-clause-there : goal.blocked_ahead-requires-clause-there
-blocked_ahead-requires-clause-there g c e is =
+pub foreseen-requires-clause-there : goal.foreseen-requires-clause-there
+foreseen-requires-clause-there g c e is =
     omega (arith, at-eldest c.args.world.now.core.history c.eldest-eldest.result e c.eldest-eldest.ensures is, length-place c.args.world.now.core.floor c.args.world.now.core.history c.chapter-chapter.ensures.legal)
