@@ -333,7 +333,7 @@ class Talk:
             self.refused = self.unroomy
         elif self.unroomy and not self.turns:
             told = f"{len(self.unroomy)} of {self.grid.floor_count()} cells are not roomy for {robots} robots"
-            self.warning = f"fleet: {told}: errands there may block the fleet for ever\n"
+            self.warning = f"fleet: {told}: errands there may block the fleet for ever (see --planner turns)\n"
 
     def choose(self):
         """Has the ticks of the open fleet planned in the manner that is asked for."""

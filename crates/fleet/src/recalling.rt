@@ -11,7 +11,7 @@ use std::io::Write;
 /// How many bytes of chapters are read for it, the last one of them whole.
 const MOST_READ: usize = 67_108_864;
 
-/// The notices that the last chapters of a folder tell, of each client so many at most.
+/// The notices that the last chapters of a folder tell, of each client no more than are recalled.
 fn recalls_of<R: Files + Alloc<A = Global>>(
     rt: &R,
     folder: &str,

@@ -52,7 +52,7 @@ Follows m (Some before) text = (ts : List (Trace Global)) × TellChapters m (bef
 abbrev pub line_after : ℕ → ℕ → ℕ
 line_after lines more = min (lines + more) (2 ^ 64 - 1)
 
--- the whole lines of a journal tell a chapter that is legal on the map; this is its trace, and so many bytes after its lines tell nothing
+-- the whole lines of a journal tell a chapter that is legal on the map; this is its trace, and `cut` bytes after its lines tell nothing
 pub record IsRecovered (map : List ℕ) (before : Option (List ℕ)) (journal : List ℕ) (number : ℕ) (r : Recovered) : Type 0 where
   pub floor : Map
   pub told : Trace Global

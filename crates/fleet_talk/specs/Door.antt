@@ -44,4 +44,4 @@ refused_post_text w client = if nat_lt client (clients w.history) then no_room_l
 -- the warning where posts to them are not refused
 abbrev pub unroomy_line : (unroomy floor robots : ℕ) → List ℕ
 unroomy_line unroomy floor robots =
-    codes "fleet: " ++ (decimal unroomy ++ (codes " of " ++ (decimal floor ++ (codes " cells are not roomy for " ++ (decimal robots ++ codes " robots: errands there may block the fleet for ever\n")))))
+    codes "fleet: " ++ (decimal unroomy ++ (codes " of " ++ (decimal floor ++ (codes " cells are not roomy for " ++ (decimal robots ++ codes " robots: errands there may block the fleet for ever (see --planner turns)\n")))))

@@ -82,7 +82,7 @@ pub fn unroomy_line(alloc: Global, door: &Door) -> Result<String, AllocError>
 {
     let (unroomy, floor, robots) = (door.unroomy, door.floor, door.robots);
     format!(in alloc;
-        "fleet: {unroomy} of {floor} cells are not roomy for {robots} robots: errands there may block the fleet for ever\n"
+        "fleet: {unroomy} of {floor} cells are not roomy for {robots} robots: errands there may block the fleet for ever (see --planner turns)\n"
     )
 }
 

@@ -132,7 +132,7 @@ pub record AreNumberedOn (c : ℕ) (f : FleetView) : Type 0 where
   pub seqs : map seq_of (left_of f.talk c) ≡ numbers_behind (recall_of f.recalls c).told (length (left_of f.talk c))
   pub all : (recall_of f.recalls c).told + length (left_of f.talk c) ≡ noticed_count f.talk.world.history c
 
--- it stays so, and so many more were told as notices were
+-- it stays so, and as many more were told as notices were
 abbrev pub EachIsCounted : Type 0
 EachIsCounted =
     (s t : Stage) (events : List Heard) (acts : List Act) → Plays s events acts t → (c : ℕ) → IsKnown s.at.fleet.talk c → IsRecalled s.at.fleet.recalls c → c < clients s.at.fleet.talk.world.history → AreNumberedOn c s.at.fleet

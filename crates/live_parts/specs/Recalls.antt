@@ -12,7 +12,7 @@ pub record Recall : Type 0 where
   pub told : ℕ
   pub closed : Bool
 
--- what each client was told; of each so many notices are kept at most
+-- what each client was told; of each at most `most` notices are kept
 pub record Recalls : Type 0 where
   pub most : ℕ
   pub clients : List Recall
@@ -27,11 +27,11 @@ recall_at rs c = slice_index_or rs c nothing_told
 abbrev pub recall_of : Recalls → ℕ → Recall
 recall_of s c = recall_at s.clients c
 
--- the last of a list, so many at most
+-- the last of a list, at most a number of them
 abbrev pub last_of : {X : Type 0} → ℕ → List X → List X
 last_of most xs = drop (length xs - most) xs
 
--- with one more notice, of which so many are kept at most
+-- with one more notice, of which at most `most` are kept
 abbrev pub with_notice : ℕ → Notice → Recall → Recall
 with_notice most n r = record r { notices = last_of most (r.notices ++ n ∷ []); told = seq_of n }
 
@@ -94,6 +94,6 @@ with_before most before r = record r { notices = if leads_to before r.notices th
 abbrev pub wants_more : ℕ → ClientState → Recall → Bool
 wants_more most client r = nat_lt 0 client.noticed && nat_lt (length r.notices) most
 
--- of each client so many notices are kept at most
+-- of each client at most `most` notices are kept
 abbrev pub AreFew : ℕ → List Recall → Type 0
 AreFew most rs = All (λ r. length r.notices ≤ most) rs

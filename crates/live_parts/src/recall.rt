@@ -38,7 +38,7 @@ fn seq_of(notice: Notice) -> u64
     }
 }
 
-/// Adds the last of these notices, so many, before the others.
+/// Adds the last `count` of these notices before the others.
 fn add_last(
     notices: &mut VecDeque<Notice>,
     before: &[Notice],
@@ -101,7 +101,7 @@ impl Recall {
             .collect(alloc)
     }
 
-    /// Adds a notice after the others; of more than so many the first goes.
+    /// Adds a notice after the others; of more than are kept the first goes.
     pub(crate) fn push(&mut self, most: usize, notice: Notice) -> Result<(), AllocError>
         requires few { length self.old.notices ≤ most }
         ensures ok { OnOk result (self.new ≡ with_notice most notice self.old) }

@@ -33,7 +33,7 @@ impl Model for Recalls {
     ghost invariant = { λ s. AreFew s.most s.clients.items };
 }
 
-/// Makes room for so many clients.
+/// Makes room for a number of clients.
 fn widen(alloc: Global, clients: &mut Vec<Recall>, count: usize) -> Result<(), AllocError>
     ensures wide { OnOk result (count ≤ length clients.new.items) }
     ensures few { (most : ℕ) → AreFew most clients.old.items → AreFew most clients.new.items }
@@ -112,7 +112,7 @@ fn begin_in(clients: &mut Vec<Recall>, states: &[ClientState])
 }
 
 impl Recalls {
-    /// Nothing was told. Of each client so many notices are kept at most.
+    /// Nothing was told. Of each client at most `most` notices are kept.
     pub fn new(alloc: Global, most: usize) -> Recalls
         ensures { result ≡ record { most = most; clients = [] } }
     {

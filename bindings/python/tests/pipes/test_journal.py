@@ -35,7 +35,7 @@ class JournalTest(KeptChaptersTest):
         return self.run_program(self.words(*words, resume=resume), lines)
 
     def killed(self, lines, answers, *words):
-        """What a fleet said to lines, so many lines of it, before it was killed."""
+        """The first lines that a fleet answered, before it was killed."""
         process = subprocess.Popen([PROGRAM, *self.words(*words)], stdin=subprocess.PIPE, stdout=subprocess.PIPE, stderr=subprocess.DEVNULL)
         process.stdin.write(lines.encode())
         process.stdin.flush()

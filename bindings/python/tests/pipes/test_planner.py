@@ -53,7 +53,7 @@ class PlannerTest(unittest.TestCase):
         return done.stdout, done.stderr
 
     def test_an_aisle_that_ends_blind(self):
-        warning = "fleet: 1 of 6 cells are not roomy for 2 robots: errands there may block the fleet for ever\n"
+        warning = "fleet: 1 of 6 cells are not roomy for 2 robots: errands there may block the fleet for ever (see --planner turns)\n"
         frozen = TAKEN + ticks(FROZEN)
         for words in ([], ["--planner", "plain"]):
             self.assertEqual(self.said(words, AISLE, ERRAND + "tick 8\n"), (frozen, warning))

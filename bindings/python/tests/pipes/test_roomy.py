@@ -77,7 +77,7 @@ class RoomyTest(unittest.TestCase):
             self.assertTrue(fleet.look().idle)
 
     def test_the_warning(self):
-        warning = "fleet: 1 of 12 cells are not roomy for 2 robots: errands there may block the fleet for ever\n"
+        warning = "fleet: 1 of 12 cells are not roomy for 2 robots: errands there may block the fleet for ever (see --planner turns)\n"
         for word, words in (("talk", []), ("live", ["--robots", "0,2"])):
             for roomy, said in (([], warning), (["--roomy"], "")):
                 lines = "look\n" if words else "robots 0 2\nlook\n"
