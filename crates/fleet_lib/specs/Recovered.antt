@@ -1,5 +1,5 @@
 -- The chapter that a journal tells, and why no fleet goes on from it.
-use Rattle.std.specs.Prelude.{⊤, ◌≡◌, ◌≢◌, ℕ, ◌+◌, ◌-◌, ◌^◌, ◌==◌, Bool, true, false, List, [], ◌∷◌, ◌++◌, Option, Some, None, Ok, Err, codes, decimal, length, min, string_bytes, take}
+use Rattle.std.specs.Prelude.{⊤, ◌≡◌, ◌≢◌, ℕ, ◌+◌, ◌-◌, ◌^◌, ◌==◌, Bool, List, [], ◌∷◌, ◌++◌, Option, Some, None, Ok, Err, codes, decimal, length, min, string_bytes, take}
 use Rattle.std.specs.List.{position}
 use Rattle.std.specs.declared.alloc.Global.{Global}
 use Rattle.fleet_explain.specs.declared.explanation.Explanation.{Explanation}

@@ -1,7 +1,6 @@
 -- Notices that are numbered in a row, and the last of them that are kept.
-use Rattle.std.proofs.Common.{◌≡◌, ℕ, suc, ◌+◌, ◌-◌, ◌<◌, ◌≤◌, Bool, true, false, cond, eqb, List, [], ◌∷◌, ◌++◌, Some, get_or, length, drop, map, sym, refl, ap, ◌∙◌, subst, arith, inl, inr, length-append, length-drop, get_or-drop}
+use Rattle.std.proofs.Common.{◌≡◌, ℕ, ◌+◌, ◌-◌, ◌<◌, ◌≤◌, true, cond, List, [], ◌∷◌, ◌++◌, Some, get_or, length, drop, sym, refl, ap, ◌∙◌, subst, arith, inl, inr, length-append, length-drop, get_or-drop}
 use Rattle.std.specs.Prelude.{slice_get}
-use Rattle.std.specs.List.{range_with_len}
 use Rattle.std.proofs.lemmas.Bool.{cases_lt, cond_both, eq-eqb}
 use Rattle.std.proofs.lemmas.List.{get_or-append-add, get_or-map, get_or_append_left}
 use Rattle.std.proofs.lemmas.List.FromFn.{get_or-range_with_len}

@@ -1,8 +1,8 @@
 -- What is made for a client, entry by entry, is what its notices and counts are.
-use Rattle.std.proofs.Common.{◌≡◌, ℕ, ◌+◌, ◌^◌, ◌<◌, List, [], ◌∷◌, ◌++◌, filter, eqb, cond, Bool, true, false, sym, refl, ap, ◌∙◌, subst, arith, add-zero}
+use Rattle.std.proofs.Common.{◌≡◌, ℕ, ◌+◌, ◌^◌, ◌<◌, List, [], ◌∷◌, ◌++◌, filter, length, cond, Bool, true, false, sym, refl, ap, ◌∙◌, subst, arith, add-zero}
 use Rattle.std.specs.Prelude.{count_by, fold, slice_index, ◌==◌}
 use Rattle.std.proofs.lemmas.List.{append_assoc, append-nil}
-use Rattle.std.proofs.lemmas.List.Sums.{sum_by-append, sum_by-cons}
+use Rattle.std.proofs.lemmas.List.Sums.{count_by-le-length, sum_by-append, sum_by-cons}
 use Rattle.fleet_book.specs.declared.notice.Notice.{Notice}
 use Rattle.fleet_book.specs.declared.notice.Notice.TheVariants as notice
 use Rattle.fleet_book.specs.declared.verdict.Verdict.{Verdict}
@@ -10,13 +10,17 @@ use Rattle.fleet_history.specs.declared.history.Arrival.{Arrival}
 use Rattle.fleet_history.specs.declared.history.Entry.{Entry}
 use Rattle.fleet_history.specs.declared.history.Entry.TheVariants.{Take, Tick, Shut}
 use Rattle.fleet_history.specs.declared.history.Opening.{Opening}
-use Rattle.fleet_history.specs.History.{History, after, clock, client_at, is_take_of, is_tick, start, taken_count, with_entries}
+use Rattle.fleet_history.specs.History.{History, after, clients, clock, client_at, is_take_of, is_tick, start, taken_count, with_entries}
 use Rattle.fleet_history.specs.Notices.{arrival_notices, noticed_count, notices, told, told_count}
 use Rattle.fleet_history.proofs.After.{clock-after, noticed_count-after, taken_count-after}
+use Rattle.fleet_history.specs.Legal.{IsLegal}
+use Rattle.fleet_history.proofs.Counts.{legal-counts, taken-few}
+use Rattle.fleet_history.proofs.Legal.{legal-opening}
 use Rattle.fleet_history.proofs.Told.{notices-after}
+use Rattle.fleet_grid.specs.Floor.{Floor}
 use Rattle.live_parts.specs.Notices.{capped}
 use Rattle.live_parts.specs.Recalls.{IsCounted}
-use Rattle.live_parts.specs.inside.Making.{Made, added, judged, landed, landed_of, opened, ticked}
+use Rattle.live_parts.specs.inside.Making.{Made, added, judged, landed, landed_of, opened}
 
 -- what the entries of a history make for a client
 abbrev pub made_by : {A : Type 0} → History A → ℕ → Made
@@ -121,3 +125,17 @@ made-opened o c = same-made refl (sym (add-zero (client_at (start o) c).taken)) 
 -- the notices of a history's entries
 pub made-notices : {A : Type 0} (h : History A) (c : ℕ) → IsCounted h c → (fold (added c) (opened h.opening c) h.entries).notices ≡ notices h c
 made-notices h c few = ap (λ m. m.notices) (ap (λ m. fold (added c) m h.entries) (made-opened h.opening c) ∙ made-entries c h.entries (start h.opening) few)
+
+-- ---- legal histories
+
+-- 64 bits count what a legal history has, if they count its ticks
+pub legal-counted : {A : Type 0} (m : Floor) (c : ℕ) (h : History A) → IsLegal m h → c < clients h → h.opening.tick + length h.entries < 2 ^ 63 → IsCounted h c
+legal-counted m c h legal known early =
+    let counts = legal-counts m h c legal known in
+    let opening = legal-opening m h legal in
+    let client = opening.clients c known in
+    record {
+      orders = omega (arith, client.small, taken-few h c, early);
+      notices = omega (arith, client.small, taken-few h c, early, counts.not_early, counts.within_life, opening.life.1);
+      ticks = omega (arith, early, count_by-le-length is_tick h.entries);
+    }

@@ -1,5 +1,5 @@
 -- The last notices of a client, as notices come after them and before them.
-use Rattle.std.proofs.Common.{◌≡◌, ℕ, zero, suc, ◌+◌, ◌-◌, ◌<◌, ◌≤◌, Bool, true, false, ◌||◌, List, [], ◌∷◌, ◌++◌, get_or, length, drop, filter, set, sym, refl, ap, ◌∙◌, subst, arith, inl, inr, length-append, length-drop, take, take-append-drop, min, Result, Ok, Err, IfOk, Vec}
+use Rattle.std.proofs.Common.{◌≡◌, ℕ, zero, suc, ◌+◌, ◌-◌, ◌<◌, ◌≤◌, Bool, true, false, ◌||◌, List, [], ◌∷◌, ◌++◌, get_or, length, drop, set, sym, refl, ap, ◌∙◌, subst, arith, inl, inr, length-append, length-drop, take, take-append-drop, min, Result, Ok, Err, IfOk, Vec}
 use Rattle.std.specs.Prelude.{nat_lt}
 use Rattle.std.specs.List.{list_any, range_with_len}
 use Rattle.std.proofs.lemmas.Bool.{cases_eq, cases_lt}

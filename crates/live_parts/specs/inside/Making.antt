@@ -7,7 +7,7 @@ use Rattle.fleet_history.specs.declared.history.Arrival.{Arrival}
 use Rattle.fleet_history.specs.declared.history.Entry.{Entry}
 use Rattle.fleet_history.specs.declared.history.Entry.TheVariants.{Take, Tick, Shut}
 use Rattle.fleet_history.specs.declared.history.Opening.{Opening}
-use Rattle.fleet_history.specs.History.{History, client_at, start}
+use Rattle.fleet_history.specs.History.{client_at, start}
 use Rattle.live_parts.specs.Notices.{capped}
 
 -- what was made for a client: its notices, and the counts by which the next are numbered

@@ -1,6 +1,5 @@
 -- There are no more than are kept.
-use Rattle.std.proofs.Common.{rules, ◌≡◌, ◌≤◌, length}
-use Rattle.live_parts.specs.Recalls.{recall_of}
+use Rattle.std.proofs.Common.{rules, ◌≤◌, length}
 use Rattle.live_parts.proofs.Recalling.{few-later}
 use Rattle.live_parts.proofs.recalls.Recalls.after.Goals as goal
 
