@@ -1,4 +1,5 @@
 pub mod Sets
+pub mod Serving
 pub mod Standings
 pub mod Fits
 pub mod Peels

@@ -1,8 +1,8 @@
 -- Texts that are written piece by piece.
 use Rattle.std.proofs.Common.{◌≡◌, List, ℕ, ◌++◌, append_assoc, ap, subst}
-use Rattle.std.specs.Prelude.{Result, Ok, Err, OnOk, codes, is_ok, if◌then◌else◌}
+use Rattle.std.specs.Prelude.{Result, Ok, Err, Some, OnOk, codes, is_ok, if◌then◌else◌}
 use Rattle.std.proofs.lemmas.Bool.{ne_eqb}
-use Rattle.fleet_survey.specs.Texts.{line, roomy_for_line}
+use Rattle.fleet_survey.specs.Texts.{line, roomy_for_line, served_line}
 
 pub two-is : (old p1 p2 t1 t2 : List ℕ) → t1 ≡ old ++ p1 → t2 ≡ t1 ++ p2 → t2 ≡ old ++ (p1 ++ p2)
 two-is old p1 p2 t1 t2 e1 e2 = rw (e2, e1) (simp append_assoc)
@@ -29,6 +29,9 @@ twice-is old new a b e w w2 same is = subst (λ (x : List ℕ). new ≡ old ++ (
 -- a number that does not stand for every number
 pub fewer-than-all : (n k : ℕ) → (n ≡ 4294967295 → ⊥) → k ≡ n → line (codes "cells_roomy_for ") k ≡ roomy_for_line n
 fewer-than-all n k other same = rw (ne_eqb n 4294967295 other) (ap (line (codes "cells_roomy_for ")) same)
+
+pub served-fewer : (n k : ℕ) → (n ≡ 4294967295 → ⊥) → k ≡ n → line (codes "served_for ") k ≡ served_line (Some n)
+served-fewer n k other same = rw (ne_eqb n 4294967295 other) (ap (line (codes "served_for ")) same)
 
 -- after a last piece
 pub pushed : {T E : Type 0} (r : Result T E) (new all old : List ℕ) (G : Type 0) → new ≡ (if is_ok r then all else old) → (new ≡ all → G) → OnOk r G

@@ -48,6 +48,11 @@ end_json e = end_begin e.mouth (length e.cells.items) ++ (numbers_json e.cells.i
 abbrev pub ends_json : List DeadEnd → List ℕ
 ends_json ends = codes "\"dead_ends\":[" ++ (commas end_json ends ++ codes "],")
 
+-- for how many robots all cells are served; 2^32 - 1 stands for every number
+abbrev pub served_json : Option ℕ → List ℕ
+served_json None = []
+served_json (Some n) = if n == 4294967295 then codes "\"served_for\":null," else codes "\"served_for\":" ++ (decimal n ++ codes ",")
+
 -- 2^32 - 1 stands for every number of robots
 abbrev pub roomy_for_json : ℕ → List ℕ
 roomy_for_json n = if n == 4294967295 then codes "\"cells_roomy_for\":null," else codes "\"cells_roomy_for\":" ++ (decimal n ++ codes ",")
@@ -66,4 +71,4 @@ abbrev pub promises_json : Standing → List ℕ
 promises_json standing = codes "\"promises\":\"" ++ (promised standing ++ codes "\"}\n")
 
 abbrev pub survey_json : Survey → Option Listed → List ℕ
-survey_json s listed = codes "{" ++ (sizes_json s ++ (bridges_json s.bridges.items ++ (ends_json s.ends.items ++ (listed_json listed ++ promises_json s.standing))))
+survey_json s listed = codes "{" ++ (sizes_json s ++ (bridges_json s.bridges.items ++ (ends_json s.ends.items ++ (served_json s.served ++ (listed_json listed ++ promises_json s.standing)))))

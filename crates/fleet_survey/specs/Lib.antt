@@ -2,6 +2,7 @@ pub mod Answer
 pub mod Cells
 pub mod DeadEnds
 pub mod Taken
+pub mod Served
 pub mod Survey
 pub mod Pruned
 pub mod Peeled

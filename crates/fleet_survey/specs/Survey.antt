@@ -1,5 +1,5 @@
 -- What a map offers for a number of robots.
-use Rattle.std.specs.Prelude.{◌≡◌, ℕ, ◌^◌, ◌<◌, ◌≤◌, ◌↔◌, Bool, true, false, List, [], ◌∷◌}
+use Rattle.std.specs.Prelude.{◌≡◌, ℕ, ◌^◌, ◌<◌, ◌≤◌, ◌↔◌, Bool, true, false, List, [], ◌∷◌, IfSome}
 use Rattle.std.specs.List.{All, AllPairs, Contains}
 use Rattle.fleet_grid.specs.Counts.{edge_count, floor_count}
 use Rattle.fleet_grid.specs.Floor.{Floor, IsFloor, IsNeighbour}
@@ -8,6 +8,7 @@ use Rattle.fleet_bridge.specs.Bridges.{AreBridges}
 use Rattle.fleet_bridge.specs.Roominess.{AreRoomyFor}
 use Rattle.fleet_roomy.specs.Unroomy.{IsRoomyCell, IsUnroomyCell}
 use Rattle.fleet_survey.specs.DeadEnds.{AreDeadEnds}
+use Rattle.fleet_survey.specs.Served.{IsServedLimit}
 use Rattle.fleet_survey.specs.declared.standing.Standing.{Standing}
 use Rattle.fleet_survey.specs.declared.standing.Standing.TheVariants.{Bridgeless, AllRoomy, SomeRoomy, NoneRoomy}
 use Rattle.fleet_survey.specs.declared.survey.Survey.{Survey}
@@ -55,5 +56,6 @@ pub record IsSurvey (m : Floor) (n : ℕ) (s : Survey) : Type 0 where
   pub roomy : AreCells (IsRoomyCell m n) s.roomy.items
   pub unroomy : AreCells (IsUnroomyCell m n) s.unroomy.items
   pub ends : AreDeadEnds m (IsUnroomyCell m n) (IsRoomyCell m n) s.ends.items
+  pub served : IfSome s.served (IsServedLimit m)
   pub most : AreRoomyFor m s.most.items
   pub standing : IsStanding m n s.standing

@@ -46,6 +46,11 @@ end_line e = end_head e.mouth (length e.cells.items) ++ (few_text e.cells.items 
 abbrev pub roomy_lines : Survey → List ℕ
 roomy_lines s = line (codes "robots ") s.robots ++ (line (codes "roomy ") (length s.roomy.items) ++ (line (codes "not_roomy ") (length s.unroomy.items) ++ (line (codes "dead_ends ") (length s.ends.items) ++ flat_map end_line s.ends.items)))
 
+-- for how many robots all cells are served; 2^32 - 1 stands for every number
+abbrev pub served_line : Option ℕ → List ℕ
+served_line None = []
+served_line (Some n) = if n == 4294967295 then codes "served_for all\n" else line (codes "served_for ") n
+
 -- 2^32 - 1 stands for every number of robots
 abbrev pub roomy_for_line : ℕ → List ℕ
 roomy_for_line n = if n == 4294967295 then codes "cells_roomy_for all\n" else line (codes "cells_roomy_for ") n
@@ -64,7 +69,7 @@ abbrev pub promise_lines : Standing → List ℕ
 promise_lines standing = codes "promise 2, the robot that has waited longest comes nearer at every tick: " ++ (condition standing ++ (codes "\npromise 3, every wait is below a bound: " ++ (condition standing ++ codes "\n")))
 
 abbrev pub survey_lines : Survey → Option Listed → List ℕ
-survey_lines s listed = map_lines s ++ (roomy_lines s ++ (listed_lines listed ++ promise_lines s.standing))
+survey_lines s listed = map_lines s ++ (roomy_lines s ++ (served_line s.served ++ (listed_lines listed ++ promise_lines s.standing)))
 
 -- ---- walls to be opened
 

@@ -2,7 +2,7 @@
 
 ghost use Rattle.std.specs.Prelude.{◌≡◌, ◌++◌, IfOk, OnOk, decimal, string_bytes};
 ghost use Rattle.std.specs.List.{flat_map};
-ghost use Rattle.fleet_survey.specs.Json.{bridge_json, bridges_json, comma_and, commas, end_begin, end_json, ends_json, listed_json, mouth_json, numbers_json, promised, promises_json, roomy_for_json, sizes_json, survey_json};
+ghost use Rattle.fleet_survey.specs.Json.{bridge_json, bridges_json, comma_and, commas, end_begin, end_json, ends_json, listed_json, mouth_json, numbers_json, promised, promises_json, roomy_for_json, served_json, sizes_json, survey_json};
 
 use crate::ends::DeadEnd;
 use crate::listed::Listed;
@@ -145,6 +145,20 @@ fn write_ends(out: &mut String, ends: &[DeadEnd]) -> Result<(), AllocError>
     out.push_str("],")
 }
 
+/// For how many robots all cells are served.
+fn write_served(out: &mut String, served: Option<u32>) -> Result<(), AllocError>
+    ensures { OnOk result (string_bytes out.new ≡ string_bytes out.old ++ served_json served) }
+{
+    let Some(robots) = served else {
+        return Ok(());
+    };
+    if robots == u32::MAX {
+        out.push_str("\"served_for\":null,")
+    } else {
+        write!(out, "\"served_for\":{robots},")
+    }
+}
+
 /// For how many robots all cells of a list are roomy.
 fn write_roomy_for(out: &mut String, roomy_for: u32) -> Result<(), AllocError>
     ensures { OnOk result (string_bytes out.new ≡ string_bytes out.old ++ roomy_for_json roomy_for) }
@@ -211,6 +225,7 @@ pub fn survey_json(alloc: Global, s: &Survey, listed: Option<Listed>) -> Result<
     write_sizes(&mut out, s)?;
     write_bridges(&mut out, &s.bridges)?;
     write_ends(&mut out, &s.ends)?;
+    write_served(&mut out, s.served)?;
     write_listed(&mut out, listed)?;
     write_promises(&mut out, s.standing)?;
     Ok(out)

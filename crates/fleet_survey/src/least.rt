@@ -9,7 +9,7 @@ ghost use Rattle.fleet_survey.specs.Survey.{IsGreatestFor};
 use fleet_grid::Grid;
 
 /// The lesser of two numbers.
-fn lesser(a: u32, b: u32) -> u32
+pub(crate) fn lesser(a: u32, b: u32) -> u32
     ensures first { result ≤ a }
     ensures second { result ≤ b }
     ensures either { (result ≡ a) ⊎ (result ≡ b) }

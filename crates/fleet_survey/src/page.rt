@@ -2,7 +2,7 @@
 
 ghost use Rattle.std.specs.Prelude.{◌≡◌, ◌++◌, IfOk, OnOk, codes, string_bytes};
 ghost use Rattle.std.specs.List.{flat_map};
-ghost use Rattle.fleet_survey.specs.Texts.{blank_and, bridge_line, condition, end_head, end_line, few_text, line, listed_lines, map_lines, mending_lines, mouth_text, promise_lines, roomy_for_line, roomy_lines, survey_lines};
+ghost use Rattle.fleet_survey.specs.Texts.{blank_and, bridge_line, condition, end_head, end_line, few_text, line, listed_lines, map_lines, mending_lines, mouth_text, promise_lines, roomy_for_line, roomy_lines, served_line, survey_lines};
 
 use crate::ends::DeadEnd;
 use crate::listed::Listed;
@@ -115,6 +115,20 @@ fn write_roomy(out: &mut String, s: &Survey) -> Result<(), AllocError>
     write_ends(out, &s.ends)
 }
 
+/// For how many robots all cells are served.
+fn write_served(out: &mut String, served: Option<u32>) -> Result<(), AllocError>
+    ensures { OnOk result (string_bytes out.new ≡ string_bytes out.old ++ served_line served) }
+{
+    let Some(robots) = served else {
+        return Ok(());
+    };
+    if robots == u32::MAX {
+        out.push_str("served_for all\n")
+    } else {
+        write_line(out, "served_for ", u64::from(robots))
+    }
+}
+
 /// For how many robots all cells of a list are roomy.
 fn write_roomy_for(out: &mut String, roomy_for: u32) -> Result<(), AllocError>
     ensures { OnOk result (string_bytes out.new ≡ string_bytes out.old ++ roomy_for_line roomy_for) }
@@ -169,6 +183,7 @@ pub fn survey_lines(alloc: Global, s: &Survey, listed: Option<Listed>) -> Result
     let mut out = String::new(alloc);
     write_map(&mut out, s)?;
     write_roomy(&mut out, s)?;
+    write_served(&mut out, s.served)?;
     write_listed(&mut out, listed)?;
     write_promises(&mut out, s.standing)?;
     Ok(out)

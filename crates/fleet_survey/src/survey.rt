@@ -5,6 +5,7 @@ ghost use Rattle.fleet_survey.specs.Survey.{IsSurvey};
 
 use crate::chosen::floor_cells;
 use crate::ends::{DeadEnd, dead_ends};
+use crate::served::served_for;
 use crate::standing::{Standing, standing_of};
 use fleet_bridge::{bridges, roominess};
 use fleet_grid::Grid;
@@ -30,6 +31,8 @@ pub struct Survey {
     /// The floor cells that are not.
     pub unroomy: Vec<u32>,
     pub ends: Vec<DeadEnd>,
+    /// For how many robots all floor cells are served, where robots take turns, as `served_for` says it.
+    pub served: Option<u32>,
     /// For which errands the promises on waits are.
     pub standing: Standing,
 }
@@ -44,6 +47,7 @@ pub fn survey_of(alloc: Global, grid: &Grid, robots: u32) -> Result<Survey, Allo
     let roomy = floor_cells(alloc, grid, &marked, false)?;
     let ends = dead_ends(alloc, grid, &marked, &unroomy)?;
     let bridges = bridges(alloc, grid)?;
+    let served = served_for(alloc, grid)?;
     let standing = standing_of(&bridges, &roomy, &unroomy);
     Ok(Survey {
         robots,
@@ -56,6 +60,7 @@ pub fn survey_of(alloc: Global, grid: &Grid, robots: u32) -> Result<Survey, Allo
         roomy,
         unroomy,
         ends,
+        served,
         standing,
     })
 }

@@ -26,6 +26,7 @@ const LINES: &str = "size 3 7\n\
     not_roomy 1\n\
     dead_ends 1\n\
     dead_end mouth 10 size 1 cells 17\n\
+    served_for 4\n\
     cells 2\n\
     cells_roomy_for 5\n\
     promise 2, the robot that has waited longest comes nearer at every tick: if all errands go to roomy cells\n\
@@ -34,7 +35,7 @@ const LINES: &str = "size 3 7\n\
 /// The same as JSON.
 const JSON: &str =
     "{\"height\":3,\"width\":7,\"floor\":12,\"edges\":13,\"robots\":4,\"roomy\":11,\"not_roomy\":1,\
-    \"bridges\":[[8,9],[9,10],[10,11],[10,17],[11,12]],\"dead_ends\":[{\"mouth\":10,\"size\":1,\"cells\":[17]}],\
+    \"bridges\":[[8,9],[9,10],[10,11],[10,17],[11,12]],\"dead_ends\":[{\"mouth\":10,\"size\":1,\"cells\":[17]}],\"served_for\":4,\
     \"cells\":2,\"cells_roomy_for\":5,\"promises\":\"some_roomy\"}\n";
 
 /// The rings without the stub.

@@ -27,6 +27,7 @@ returns c =
       roomy = roomy;
       unroomy = unroomy;
       ends = ends_are m n marks c.in_ok-ends.ends.items known c.in_ok-ends.ensures;
+      served = c.in_ok-served.ensures;
       most = record { size = omega (arith, c.in_ok-most.ensures.size, c.in_ok-most.most.ok.0); each = c.in_ok-most.ensures.exact };
       standing =
           standing_is m n c.in_ok-bridges.bridges.items c.in_ok-roomy.roomy.items c.in_ok-unroomy.unroomy.items marks c.standing_of-standing.result
