@@ -30,7 +30,8 @@ fn blocked_ahead(
 }
 
 /// What is known of the ticks to come.
-struct Foreseen {
+#[derive(Clone, Copy)]
+struct Outlook {
     within: Option<u64>,
     blocked: Option<u32>,
 }
@@ -41,7 +42,7 @@ fn foreseen(
     world: &World,
     eldest: Option<u32>,
     roominess: &[u32],
-) -> Result<Foreseen, AllocError>
+) -> Result<Outlook, AllocError>
     requires rooms { AreRoomyFor world.now.core.floor roominess.now }
     requires known { (e : ℕ) → eldest ≡ Some e → e < robots world.now.core.history }
     requires there { (e : ℕ) → eldest ≡ Some e → e < length (place world.now.core.history) }
@@ -49,12 +50,12 @@ fn foreseen(
     ensures turns { IfOk result (λ f. IsSome world.now.core.turns → (f.within ≡ None) × (f.blocked ≡ None)) }
 {
     if world.takes_turns() {
-        return Ok(Foreseen {
+        return Ok(Outlook {
             within: None,
             blocked: None,
         });
     }
-    Ok(Foreseen {
+    Ok(Outlook {
         within: world.roomy_within(roominess),
         blocked: blocked_ahead(alloc, world, eldest)?,
     })

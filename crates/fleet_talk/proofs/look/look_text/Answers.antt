@@ -11,11 +11,11 @@ returns g c =
     (λ text is. record {
       eldest = c.eldest-eldest.result;
       oldest = c.eldest-eldest.ensures;
-      within = c.in_ok-foreseen.field-0.within;
-      blocked = c.in_ok-foreseen.field-0.blocked;
-      plain = c.in_ok-foreseen.ensures.plain;
-      turns = c.in_ok-foreseen.ensures.turns;
-      is = is ∙ same_line c.eldest-eldest.result c.in_ok-foreseen.field-0.within c.in_ok-foreseen.field-0.blocked c.clock.ensures c.chapter-chapter.ensures.number
+      within = c.in_ok-known.known.within;
+      blocked = c.in_ok-known.known.blocked;
+      plain = c.in_ok-known.ensures.plain;
+      turns = c.in_ok-known.ensures.turns;
+      is = is ∙ same_line c.eldest-eldest.result c.in_ok-known.known.within c.in_ok-known.known.blocked c.clock.ensures c.chapter-chapter.ensures.number
           (c.len.ensures ∙ (c.chapter-chapter.result.now.entries.ok.0 ∙ ap (λ h. length h.entries) c.chapter-chapter.ensures.history)) c.placement.ensures;
     }) c.look_line.ensures
 
