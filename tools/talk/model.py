@@ -40,13 +40,22 @@ def blocked_cell(w):
     return None
 
 
+def told_so_far(w):
+    """What a look tells of the ticks that were made."""
+    eldest = w.eldest()
+    state = "idle" if eldest is None else f"busy eldest {eldest}"
+    return f"look tick {w.ticks} chapter {w.number} entries {len(w.entries)} {state}"
+
+
 def look_line(w, unroomy=None):
-    """The line of a look at a world on whose map these cells are not roomy for its robots; without them, of a map with bridges no limit is told."""
+    """The line of a look at a world on whose map these cells are not roomy for its robots; without them, of a map with bridges no limit is told. Of robots that
+    take turns nothing is foreseen."""
+    if w.mover is not None:
+        return told_so_far(w) + " at " + " ".join(map(str, w.place))
     eldest, within = w.eldest(), None
     if w.is_bridgeless() if unroomy is None else not any(cell in unroomy for queue in w.queues for _, _, cell in queue):
         within = max(map(len, w.queues)) * len(w.place) * max(1, w.grid.floor_count() - 1)
-    state = "idle" if eldest is None else f"busy eldest {eldest}"
-    told = f"look tick {w.ticks} chapter {w.number} entries {len(w.entries)} {state}"
+    told = told_so_far(w)
     if within is not None:
         told += f" within {within}"
     if (blocked := blocked_cell(w)) is not None:

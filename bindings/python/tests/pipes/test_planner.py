@@ -96,6 +96,14 @@ class PlannerTest(unittest.TestCase):
         lines = "robots 0 8\npost 0 go 0 8\npost 0 go 1 0\ntake 0\ntake 0\ntick 9\nlook\n"
         self.assertEqual(self.said(["--planner", "turns"], RING, lines), self.said([], RING, lines))
 
+    def test_a_look_foresees_nothing_of_robots_that_take_turns(self):
+        roomy = "robots 0 7\npost 0 go 0 5\ntake 0\nlook\n"
+        for planner, within, then in (("plain", " within 10", " blocked 7 at 6 7"), ("turns", "", " at 5 4")):
+            out, _ = self.said(["--planner", planner], AISLE, roomy)
+            self.assertEqual(out.splitlines()[-1], f"look tick 0 chapter 0 entries 1 busy eldest 0{within} at 0 7")
+            out, _ = self.said(["--planner", planner], AISLE, ERRAND + "tick 3\nlook\n")
+            self.assertEqual(out.splitlines()[-1], f"look tick 3 chapter 0 entries 4 busy eldest 0{then}")
+
     def test_with_roomy_posts_are_refused_all_the_same(self):
         out, error = self.said(["--planner", "turns", "--roomy"], AISLE, "robots 0 7\npost 0 go 0 7\n")
         self.assertEqual((out, error), ("post-refused 0 3 no-room\n", ""))
