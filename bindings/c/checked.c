@@ -67,6 +67,7 @@ RAW(map_check_step);
 RAW(map_first_bridge);
 RAW(map_distances);
 RAW(map_unroomy);
+RAW(map_served_for);
 RAW(execution_open);
 RAW(execution_close);
 RAW(execution_plan);
@@ -486,6 +487,12 @@ nashirudder_code nashirudder_map_unroomy(const nashirudder_map *map, uint32_t ro
     if (!map || (!cells && cells_length) || !count) return NASHIRUDDER_NULL_POINTER;
     nashirudder_map seen = *map;
     return raw_nashirudder_map_unroomy(&seen, robots, LIST(uint32_t, cells), cells_length, count);
+}
+
+nashirudder_code nashirudder_map_served_for(const nashirudder_map *map, uint32_t *robots) {
+    if (!map || !robots) return NASHIRUDDER_NULL_POINTER;
+    nashirudder_map seen = *map;
+    return raw_nashirudder_map_served_for(&seen, robots);
 }
 
 nashirudder_code nashirudder_execution_open(uint32_t cells, const uint32_t *placement, size_t placement_length,

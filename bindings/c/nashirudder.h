@@ -117,7 +117,7 @@ typedef NASHIRUDDER_ENUM(nashirudder_code) {
     NASHIRUDDER_START_BLOCKED = 32,      /* the robot `first` does not start on floor */
     NASHIRUDDER_START_SHARED = 33,       /* the robots `first` and `second` start on one cell */
     NASHIRUDDER_WRONG_SIZE = 34,         /* the setup has not the size that the library reads: it was made with another header */
-    NASHIRUDDER_NO_TURNS = 35,           /* the rooms that were found on the map do not pass their checks (nashirudder_take_turns) */
+    NASHIRUDDER_NO_TURNS = 35,           /* the rooms that were found on the map do not pass their checks (nashirudder_take_turns, _map_served_for) */
 
     /* what is said of a map alone */
     NASHIRUDDER_TOO_MANY = 40,           /* more robots are named than the map has cells */
@@ -960,6 +960,14 @@ NASHIRUDDER_MUST_USE nashirudder_code nashirudder_map_distances(const nashirudde
 */
 NASHIRUDDER_MUST_USE nashirudder_code nashirudder_map_unroomy(const nashirudder_map *map, uint32_t robots, uint32_t *cells, size_t cells_length,
                                  size_t *count);
+
+/*
+** The greatest number of robots for which errands to all floor cells of the map arrive, if they take turns (nashirudder_take_turns);
+** UINT32_MAX if the map has no floor.
+**
+** Refused: NASHIRUDDER_NOT_OPEN, NASHIRUDDER_NO_TURNS, NASHIRUDDER_NO_MEMORY; `robots` stays as it was.
+*/
+NASHIRUDDER_MUST_USE nashirudder_code nashirudder_map_served_for(const nashirudder_map *map, uint32_t *robots);
 
 /* ---- the execution of a plan by robots that are not in step ---- */
 

@@ -1107,6 +1107,12 @@ public:
         cells.resize(told);
         return cells;
     }
+    /* The greatest number of robots for which errands to all floor cells arrive, if they take turns (Fleet::take_turns). */
+    [[nodiscard]] std::uint32_t served_for() const {
+        std::uint32_t robots = 0;
+        detail::check(nashirudder_map_served_for(&handle, &robots));
+        return robots;
+    }
 
 private:
     friend class Shield;

@@ -801,6 +801,7 @@ static void roomy() {
     const Map stub(STUB);
     // For as many robots as these, and for 1, 2, 3 and 4: a side of k cells is too small for k + 1 robots.
     const Cells none_of_four[4] = {{}, {11}, {10, 11}, {9, 10, 11}};
+    CHECK(stub.served_for() == 9 && Map(RING).served_for() == 11);
     CHECK(stub.unroomy(0).empty() && stub.unroomy(9) == none_of_four[3] && stub.unroomy(10) == floor && Map(RING).unroomy(512).empty());
     for (std::uint32_t robots = 1; robots <= 4; robots++) {
         const Cells &refused = none_of_four[robots - 1];
@@ -853,12 +854,16 @@ static void roomy() {
     std::uint32_t cells[4] = {9, 9, 9, 9};
     std::size_t count = 7;
     CHECK(nashirudder_map_unroomy(&map, 2, cells, 4, &count) == NASHIRUDDER_NOT_OPEN && count == 7);
+    CHECK(nashirudder_map_served_for(&map, cells) == NASHIRUDDER_NOT_OPEN && cells[0] == 9);
     CHECK(nashirudder_map_open((const std::uint8_t *)STUB, std::strlen(STUB), &map, nullptr) == NASHIRUDDER_DONE);
     CHECK(nashirudder_map_unroomy(&map, 4, cells, 2, &count) == NASHIRUDDER_WRONG_LENGTH && count == 3 && cells[0] == 9);
     CHECK(nashirudder_map_unroomy(&map, 3, cells, 4, &count) == NASHIRUDDER_DONE && count == 2 && cells[0] == 10 && cells[1] == 11 && cells[2] == 9);
     CHECK(nashirudder_map_unroomy(&map, 3, nullptr, 0, &count) == NASHIRUDDER_WRONG_LENGTH && count == 2);
     CHECK(nashirudder_map_unroomy(&map, 3, nullptr, 4, &count) == NASHIRUDDER_NULL_POINTER && nashirudder_map_unroomy(nullptr, 3, cells, 4, &count) == NASHIRUDDER_NULL_POINTER);
     CHECK(nashirudder_map_unroomy(&map, 3, cells, 4, nullptr) == NASHIRUDDER_NULL_POINTER);
+    std::uint32_t served = 7;
+    CHECK(nashirudder_map_served_for(nullptr, &served) == NASHIRUDDER_NULL_POINTER && nashirudder_map_served_for(&map, nullptr) == NASHIRUDDER_NULL_POINTER && served == 7);
+    CHECK(nashirudder_map_served_for(&map, &served) == NASHIRUDDER_DONE && served == 9);
     nashirudder_map_close(&map);
 
     Setup setup = default_setup();

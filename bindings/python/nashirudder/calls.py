@@ -179,6 +179,7 @@ FUNCTIONS = {
     "map_first_bridge": (POINTER(CMap), POINTER(CEdge)),
     "map_distances": (POINTER(CMap), c_uint32, POINTER(c_uint32), c_size_t),
     "map_unroomy": (POINTER(CMap), c_uint32, POINTER(c_uint32), c_size_t, POINTER(c_size_t)),
+    "map_served_for": (POINTER(CMap), POINTER(c_uint32)),
     "execution_open": (c_uint32, POINTER(c_uint32), c_size_t, c_uint32, c_uint32, POINTER(CExecution)),
     "execution_close": (POINTER(CExecution),),
     "execution_plan": (POINTER(CExecution), POINTER(c_uint32), c_size_t),

@@ -109,3 +109,11 @@ class Map(Uncopied):
         told = (ctypes.c_uint32 * count.value)()
         check(self._call("map_unroomy", number, told, count.value, byref(count)))
         return as_cells(told)
+
+    def served_for(self) -> int:
+        """The greatest number of robots for which errands to all floor cells arrive, if they take turns
+        (`Handle.take_turns`).
+        """
+        robots = ctypes.c_uint32()
+        check(self._call("map_served_for", byref(robots)))
+        return robots.value

@@ -137,6 +137,14 @@ impl Map {
         cells.truncate(count);
         Ok(cells)
     }
+
+    /// The greatest number of robots for which errands to all floor cells arrive, if they take turns (`Fleet::take_turns`).
+    pub fn served_for(&self) -> Result<u32, Error> {
+        let mut robots = 0;
+        // SAFETY: a pointer to a place of our own.
+        check(unsafe { raw::nashirudder_map_served_for(&self.handle, &mut robots) })?;
+        Ok(robots)
+    }
 }
 
 /// Whether a step is free of conflicts, or its first fault.

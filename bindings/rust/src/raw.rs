@@ -369,6 +369,7 @@ extern "C" {
         cells_length: usize,
         count: *mut usize,
     ) -> u32;
+    pub(crate) fn nashirudder_map_served_for(map: *const Handle, robots: *mut u32) -> u32;
     pub(crate) fn nashirudder_execution_open(
         cells: u32,
         placement: *const u32,

@@ -342,7 +342,7 @@ fn takes_errands_to_roomy_cells_alone() -> Result<(), Refused> {
             assert_eq!(name_of(next?.go(0, 0, 11)), ("no-room", (0, 0)));
         }
     }
-    assert_eq!(map.unroomy(10)?.len(), 12);
+    assert_eq!((map.unroomy(10)?.len(), map.served_for()?), (12, 9));
     Ok(())
 }
 

@@ -1,13 +1,14 @@
 -- What the calls on a map that was opened answer C.
-use Rattle.std.specs.Prelude.{ℕ, ◌≡◌, ◌≢◌, List, length, Option, None, Some}
+use Rattle.std.specs.Prelude.{ℕ, ◌≡◌, ◌≢◌, ◌⊎◌, List, length, Option, None, Some}
 use Rattle.fleet_grid.specs.Counts.{edge_count, floor_count}
 use Rattle.fleet_grid.specs.Floor.{Floor, IsFloor, IsNeighbour}
 use Rattle.fleet_grid.specs.Walk.{AreJoined}
 use Rattle.fleet_roomy.specs.Unroomy.{IsUnroomyCell}
+use Rattle.fleet_survey.specs.Served.{IsServedLimit}
 use Rattle.fleet_survey.specs.Survey.{AreCells}
 use Rattle.fleet_c.specs.Errands.{IsListed}
 use Rattle.fleet_c.specs.OwnsMap.{HeldValue}
-use Rattle.fleet_c.specs.declared.codes.TheConstants.{NOT_OPEN, NO_MEMORY}
+use Rattle.fleet_c.specs.declared.codes.TheConstants.{DONE, NOT_OPEN, NO_MEMORY, NO_TURNS}
 use Rattle.fleet_c.specs.declared.map_shape.MapShape.{MapShape}
 
 -- a closed handle is refused and stays closed; this is said of the floor of an open one, which stays as it is
@@ -36,3 +37,9 @@ pub record TellsUnroomy (m : Floor) (n code : ℕ) (before after : List ℕ) (ha
 pub record ListsUnroomy (m : Floor) (n code : ℕ) (before after : List ℕ) (had count : ℕ) : Type 0 where
   pub tells : code ≢ NO_MEMORY → TellsUnroomy m n code before after had count
   pub memory : code ≡ NO_MEMORY → (after ≡ before) × (count ≡ had)
+
+-- for how many robots all floor cells are served; or it was out of memory, or the rooms did not pass their checks, and nothing is told
+pub record TellsServed (m : Floor) (code before after : ℕ) : Type 0 where
+  pub told : code ≡ DONE → IsServedLimit m after
+  pub same : code ≢ DONE → after ≡ before
+  pub codes : code ≢ DONE → (code ≡ NO_TURNS) ⊎ (code ≡ NO_MEMORY)

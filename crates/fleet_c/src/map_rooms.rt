@@ -1,12 +1,12 @@
-//! The cells of a map that are not roomy for a number of robots.
+//! The cells of a map that are not roomy for a number of robots, and for how many robots all are served.
 
 ghost use Rattle.std.specs.Prelude.{◌≡◌, None};
-ghost use Rattle.fleet_c.specs.Floors.{ListsUnroomy, OfMap};
+ghost use Rattle.fleet_c.specs.Floors.{ListsUnroomy, OfMap, TellsServed};
 
-use crate::codes::{DONE, NO_MEMORY, NOT_OPEN, WRONG_LENGTH};
+use crate::codes::{DONE, NO_MEMORY, NO_TURNS, NOT_OPEN, WRONG_LENGTH};
 use crate::map_handle::MapHandle;
 use fleet_grid::Grid;
-use fleet_survey::unroomy_list;
+use fleet_survey::{served_for, unroomy_list};
 use std::alloc::Global;
 
 /// Lists the cells, and how many they are.
@@ -50,6 +50,41 @@ pub extern "C" fn nashirudder_map_unroomy(
         return NOT_OPEN;
     };
     let code = list_unroomy(alloc, &grid, robots, cells, count);
+    map.put(grid);
+    code
+}
+
+/// Tells for how many robots all cells are served.
+fn tell_served(alloc: Global, grid: &Grid, robots: &mut u32) -> u32
+    ensures { TellsServed grid.now result robots.old robots.new }
+{
+    match served_for(alloc, grid) {
+        Ok(Some(most)) => {
+            *robots = most;
+            DONE
+        }
+        Ok(None) => NO_TURNS,
+        Err(_) => NO_MEMORY,
+    }
+}
+
+/// The greatest number of robots for which errands to all floor cells arrive, if they take turns
+/// (`nashirudder_take_turns`); 2^32 - 1 if the map has no floor.
+///
+/// Refused in this order: the handle is closed, the rooms that were found do not pass their checks, out of memory.
+#[unsafe(no_mangle)]
+pub extern "C" fn nashirudder_map_served_for(
+    alloc: Global,
+    map: &mut MapHandle,
+    robots: &mut u32,
+) -> u32
+    ensures says { OfMap map.old.owned.held map.new.owned.held result (λ m. TellsServed m result robots.old robots.new) }
+    ensures closed { map.old.owned.held ≡ None → robots.new ≡ robots.old }
+{
+    let Some(grid) = map.take(alloc) else {
+        return NOT_OPEN;
+    };
+    let code = tell_served(alloc, &grid, robots);
     map.put(grid);
     code
 }

@@ -30,6 +30,7 @@ class RoomyTest(unittest.TestCase):
         with Map(STUB) as stub:
             for robots, unroomy in (*BY_ROBOTS, (0, []), (9, [9, 10, 11]), (10, FLOOR)):
                 self.assertEqual(list(stub.unroomy(robots)), unroomy)
+            self.assertEqual(stub.served_for(), 9)
 
     def test_by_how_many_robots_there_are(self):
         for robots, unroomy in BY_ROBOTS:
