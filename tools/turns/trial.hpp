@@ -43,7 +43,7 @@ public:
     }
 
     long arrived() const { return fleet.arrived; }
-    long most_ticks() const { return std::clamp(2 * bound, 400L, 4000L); }
+    long most_ticks() const { return std::clamp(2 * bound, 400L, 2000L); }
 
     /// Posts, shuts and one tick; what was wrong with it, or no text.
     std::string fault(Random &random, const Manner &manner) {
