@@ -65,9 +65,16 @@ public:
 
     /// One tick; what was wrong with its step, or no text.
     std::string tick() {
+        advance();
+        return fault();
+    }
+
+    /// A tick of the library, and no more.
+    void advance() { need(nashirudder_tick_into(&handle, &report, to.data(), to.size(), arrivals.data(), arrivals.size(), farewells.data(), farewells.size()), "tick"); }
+
+    /// Learns what the tick showed; what was wrong with its step, or no text.
+    std::string fault() {
         before = cells;
-        nashirudder_report report;
-        need(nashirudder_tick_into(&handle, &report, to.data(), to.size(), arrivals.data(), arrivals.size(), farewells.data(), farewells.size()), "tick");
         for (int robot = 0; robot < robots(); robot++) {
             cells[robot] = static_cast<int>(to[robot]);
             waits[robot] = queues[robot].empty() ? 0 : waits[robot] + 1;
@@ -87,6 +94,7 @@ public:
 
 private:
     nashirudder_fleet handle = NASHIRUDDER_CLOSED;
+    nashirudder_report report{};
     std::vector<int> before, comes;
     std::vector<std::uint32_t> to, farewells;
     std::vector<nashirudder_arrival> arrivals;
