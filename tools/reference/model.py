@@ -126,6 +126,7 @@ class Grid:
         self.height, self.width, self.cells = height, width, cells
         self._part = None
         self._fields = {}
+        self._neighbours = {}
 
     @staticmethod
     def of(rows):
@@ -153,12 +154,10 @@ class Grid:
 
     def neighbours(self, cell):
         """[(direction, cell)] in order of direction."""
-        out = []
-        for d in range(4):
-            n = self.neighbour(cell, d)
-            if n is not None:
-                out.append((d, n))
-        return out
+        if cell not in self._neighbours:
+            found = [(d, self.neighbour(cell, d)) for d in range(4)]
+            self._neighbours[cell] = [it for it in found if it[1] is not None]
+        return self._neighbours[cell]
 
     def floor_count(self):
         return sum(1 for c in self.cells if c in FLOOR)

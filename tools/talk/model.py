@@ -8,7 +8,7 @@ Answers as `fleet talk` does: output, error text, status. With --resume the flee
 --cases it reads the section `talk` of crates/golden_errands/stdin and prints what golden_errands has to print of it.
 `talk(map, script, lines, marks, roll, kept, roomy, turns)` returns (output, error text, status); `roll` is the bytes that a chapter's text may have where
 chapters are handed out unasked, or None; `kept` is the name of a chapter's file, its number and
-its text; with `turns` the robots take turns, on maps where one block is best (tools/turns/rooms.py). The error text begins with the warning that cells are not
+its text; with `turns` the robots take turns, on maps where it is clear by which rooms (tools/turns/rooms.py). The error text begins with the warning that cells are not
 roomy, if there is one. Standard library only.
 """
 import functools
@@ -347,7 +347,7 @@ class Talk:
     def choose(self):
         """Has the ticks of the open fleet planned in the manner that is asked for."""
         if self.turns and not self.world.is_bridgeless():
-            self.world.mover = rooms.mover(self.grid)
+            self.world.mover = rooms.mover(self.grid, len(self.world.place))
             if self.world.mover is None:
                 raise SystemExit("tools/talk/model.py: several blocks of this map are best")
 
@@ -373,11 +373,13 @@ class Talk:
         """Whether the chapter's text may have as many bytes as it may have, before an event that makes an entry. A chapter has at most 128 bytes, 136 for a
         robot, 80 for a client, 152 for an errand in a queue (48 there, and 104 where it is done with its robot's farewell); 128 and 8 for a robot for a tick,
         and 200 for another entry (96, and 104 if it is an errand that is done)."""
+        if self.roll is None:
+            return False
         w = self.world
         robots, ticks = len(w.place), sum(entry[0] == "tick" for entry in w.entries)
         opening = 128 + 136 * robots + 80 * len(w.taken) + 152 * self.opened_with
         length = opening + ticks * (128 + 8 * robots) + (len(w.entries) - ticks) * 200
-        return self.roll is not None and event[0] in ("take", "tick", "shut") and w.entries and length >= self.roll
+        return event[0] in ("take", "tick", "shut") and w.entries and length >= self.roll
 
     def reply(self, event):
         """The reply to an event, and the entry that it made, if it made one."""
