@@ -40,12 +40,12 @@ struct Site {
         return floor_cells;
     }
 
-    /// The distances from a cell, without crossing one edge.
-    Distances search(int start, std::pair<int, int> shut = {nowhere, nowhere}) const {
+    /// The distances from a cell, without crossing one edge; no more than are known when `end` is reached.
+    Distances search(int start, std::pair<int, int> shut = {nowhere, nowhere}, int end = nowhere) const {
         Distances away(floor.size(), nowhere);
         std::deque<int> queue{start};
         away[start] = 0;
-        for (; !queue.empty(); queue.pop_front())
+        for (; !queue.empty() && (end == nowhere || away[end] == nowhere); queue.pop_front())
             for (int other : near[queue.front()])
                 if (away[other] == nowhere && std::minmax(queue.front(), other) != std::minmax(shut.first, shut.second)) {
                     away[other] = away[queue.front()] + 1;

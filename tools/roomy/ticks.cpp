@@ -27,7 +27,7 @@ std::optional<std::vector<int>> sides_of(const Site &site) {
     bool has_bridge = false;
     for (int cell : site.all())
         for (int other : site.near[cell]) {
-            const Distances side = site.search(other, {cell, other});
+            const Distances side = site.search(other, {cell, other}, cell);
             if (side[cell] != nowhere) continue;
             has_bridge = true;
             for (std::size_t one = 0; one < side.size(); one++)

@@ -33,7 +33,7 @@ inline std::vector<Room> rooms_beyond_bridges(const Site &site) {
     std::vector<Room> rooms;
     for (int mouth : site.all())
         for (int door : site.near[mouth]) {
-            const Distances beyond = site.search(door, {mouth, door});
+            const Distances beyond = site.search(door, {mouth, door}, mouth);
             if (beyond[mouth] != nowhere) continue;
             Room room{mouth, door, static_cast<int>(size_of(beyond)), std::vector<bool>(beyond.size()), 0};
             for (std::size_t cell = 0; cell < beyond.size(); cell++) room.has[cell] = beyond[cell] != nowhere;

@@ -8,8 +8,6 @@
 
 namespace {
 
-constexpr int most_robots = 80;
-
 struct Kind {
     const char *name;
     std::function<maps::Rows(Random &)> draw;
@@ -57,7 +55,7 @@ struct Figures {
 };
 
 /// How many robots: for how many all cells are served, or fewer, or more.
-int some_count(Random &random, const std::vector<Part> &parts, int floor, bool is_served) {
+int some_count(Random &random, const std::vector<Part> &parts, int floor, bool is_served, int most_robots) {
     int capacity = 1;
     for (const Part &part : parts) capacity = std::max(capacity, part.capacity);
     if (!is_served) return capacity < floor ? std::min(capacity + 1 + below(random, floor - capacity), most_robots) : 0;
@@ -87,7 +85,7 @@ Manner some_manner(Random &random) {
 }
 
 /// The fleet of this seed, until so many ticks are made; whether all was as promised.
-bool try_fleet(std::uint64_t seed, const Wrong &wrong, long most, std::vector<Figures> &by_kind) {
+bool try_fleet(std::uint64_t seed, const Wrong &wrong, int most_robots, long most, std::vector<Figures> &by_kind) {
     Random random(seed);
     const std::size_t drawn = static_cast<std::size_t>(below(random, static_cast<int>(kinds.size())));
     const Kind &kind = kinds[drawn];
@@ -96,7 +94,7 @@ bool try_fleet(std::uint64_t seed, const Wrong &wrong, long most, std::vector<Fi
     const std::vector<int> floor = site.all();
     if (floor.size() < 2) return true;
     const std::vector<Part> parts = parts_of(site);
-    const int count = some_count(random, parts, static_cast<int>(floor.size()), !wrong.takes_all_as_served);
+    const int count = some_count(random, parts, static_cast<int>(floor.size()), !wrong.takes_all_as_served, most_robots);
     // one robot alone has waits of every length up to its bound
     if (count == 0 || (wrong.is_bound_less && count == 1)) return true;
     const std::vector<nashirudder_robot> robots = some_robots(random, parts, floor, count);
@@ -115,11 +113,12 @@ bool try_fleet(std::uint64_t seed, const Wrong &wrong, long most, std::vector<Fi
 }  // namespace
 
 int main(int argc, char **argv) {
-    if (argc < 3) return 2;
+    if (argc < 4) return 2;
     const long most = std::atol(argv[1]);
     std::uint64_t seed = std::strtoull(argv[2], nullptr, 10);
+    const int most_robots = std::atoi(argv[3]);
     Wrong wrong;
-    for (int word = 3; word < argc; word++) {
+    for (int word = 4; word < argc; word++) {
         wrong.is_plain |= argv[word] == std::string("plain");
         wrong.takes_all_as_served |= argv[word] == std::string("unserved");
         wrong.is_bound_less |= argv[word] == std::string("less");
@@ -128,7 +127,7 @@ int main(int argc, char **argv) {
     std::vector<Figures> by_kind(kinds.size());
     Figures all;
     for (; all.ticks < most; seed++) {
-        if (!try_fleet(seed, wrong, most - all.ticks, by_kind)) return 1;
+        if (!try_fleet(seed, wrong, most_robots, most - all.ticks, by_kind)) return 1;
         all = {};
         for (const Figures &kind : by_kind) all.add(kind);
     }
