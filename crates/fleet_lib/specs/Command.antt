@@ -26,13 +26,13 @@ convert_app = with_rules (new_app (codes "convert")) (required_value_rule (codes
 abbrev pub explain_app : App
 explain_app = with_rules (new_app (codes "explain")) (flag_rule (codes "head") ∷ file_rule (codes "MAP") ∷ new_rule (codes "INPUT") ∷ [])
 
--- live [--robots CELLS] [--clients N] [--period TIME] [--tickers N] [--client IN,OUT].. [--watch] [--service] [--roomy] [--traces DIR] [--resume]
--- [--resume-only] [--keep-every TIME] [--chapter-bytes N] [--metrics FILE] MAP [SCRIPT]
+-- live [--robots CELLS] [--clients N] [--period TIME] [--tickers N] [--client IN,OUT].. [--watch] [--service] [--roomy] [--planner NAME] [--traces DIR]
+-- [--resume] [--resume-only] [--keep-every TIME] [--journal] [--recall N] [--chapter-bytes N] [--metrics FILE] MAP [SCRIPT]
 abbrev pub live_app : App
 live_app = with_rules (new_app (codes "live"))
     (value_rule (codes "robots") ∷ value_rule (codes "clients") ∷ value_rule (codes "period") ∷ value_rule (codes "tickers") ∷ values_rule (codes "client")
-    ∷ flag_rule (codes "watch") ∷ flag_rule (codes "service") ∷ flag_rule (codes "roomy") ∷ value_rule (codes "traces") ∷ flag_rule (codes "resume") ∷ flag_rule (codes "resume-only")
-    ∷ value_rule (codes "keep-every") ∷ value_rule (codes "chapter-bytes") ∷ value_rule (codes "metrics") ∷ file_rule (codes "MAP") ∷ new_rule (codes "SCRIPT") ∷ [])
+    ∷ flag_rule (codes "watch") ∷ flag_rule (codes "service") ∷ flag_rule (codes "roomy") ∷ value_rule (codes "planner") ∷ value_rule (codes "traces") ∷ flag_rule (codes "resume") ∷ flag_rule (codes "resume-only")
+    ∷ value_rule (codes "keep-every") ∷ flag_rule (codes "journal") ∷ value_rule (codes "recall") ∷ value_rule (codes "chapter-bytes") ∷ value_rule (codes "metrics") ∷ file_rule (codes "MAP") ∷ new_rule (codes "SCRIPT") ∷ [])
 
 -- stats [--json] [--csv TABLE] MAP TRACE..
 abbrev pub stats_app : App

@@ -20,14 +20,14 @@ pub(crate) const SCRIPT: Argument<'static> = Argument {
 pub(crate) const ROOMY: Argument<'static> = Argument {
     name: "roomy",
     kind: Kind::Flag,
-    help: "Refuse posts to cells that are not roomy: then no errand blocks the fleet",
+    help: "Refuse posts to cells that are not roomy",
 };
 
 /// How ticks are planned.
 pub(crate) const PLANNER: Argument<'static> = Argument {
     name: "planner",
     kind: Kind::Value("NAME"),
-    help: "How ticks are planned: plain, as without this word, or turns: robots take turns in dead ends, so that errands there arrive",
+    help: "How ticks are planned: plain, or turns (robots take turns in dead ends)",
 };
 
 /// A folder.
@@ -41,26 +41,26 @@ pub(crate) const TRACES: Argument<'static> = Argument {
 pub(crate) const CHAPTER_BYTES: Argument<'static> = Argument {
     name: "chapter-bytes",
     kind: Kind::Value("N"),
-    help: "Begin the next chapter where the text of one reaches this many bytes, 67108864 if not given",
+    help: "Begin the next chapter where a text has this many bytes; 67108864 if not given",
 };
 
 /// To go on, and never to begin anew.
 pub(crate) const RESUME_ONLY: Argument<'static> = Argument {
     name: "resume-only",
     kind: Kind::Flag,
-    help: "Go on as with --resume; end with status 3 if the folder has no chapter",
+    help: "As --resume; end with status 3 if there is no chapter",
 };
 
 /// To go on.
 pub(crate) const RESUME: Argument<'static> = Argument {
     name: "resume",
     kind: Kind::Flag,
-    help: "Go on from the last chapter in the folder of --traces; begin anew if it has none",
+    help: "Go on from the last chapter of --traces; begin anew if there is none",
 };
 
 /// The form in which a plan is read.
 pub(crate) const FORM: Argument<'static> = Argument {
     name: "form",
     kind: Kind::Value("FORM"),
-    help: "Read the plan in this form, whatever it begins with: lines (with a head), bare (lines of cells without a head), agents, table, yaml, lorr, or lorr-planner (the planner's paths)",
+    help: "Read the plan as lines, bare, agents, table, yaml, lorr, or lorr-planner",
 };

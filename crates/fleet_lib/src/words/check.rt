@@ -38,7 +38,7 @@ pub struct Check {
 /// `check [--strict] [--form FORM] [--goals SCENARIO] [--agents N] MAP PLAN`.
 pub(crate) const CHECK: Word<'static> = Word {
     name: "check",
-    about: "Judges a plan of any planner on a map: whether it is free of conflicts, and what it costs",
+    about: "Judges a plan on a map: whether it is free of conflicts, and what it costs",
     example: "Example: fleet check arena.map plan.txt",
     arguments: &[
         Argument {
@@ -61,7 +61,7 @@ pub(crate) const CHECK: Word<'static> = Word {
         Argument {
             name: "PLAN",
             kind: Kind::File,
-            help: "A plan: lines of cells as pibt2 and LaCAM write them, with or without a head; lines of moves; paths of agents as CBS writes them; a table (CSV); the YAML of libMultiRobotPlanning; or the JSON of the League of Robot Runners",
+            help: "A plan: lines of cells or moves, paths of CBS, a table (CSV), YAML, or JSON of the League of Robot Runners",
         },
     ],
 };

@@ -32,13 +32,13 @@ pub struct Convert {
 /// `convert --to FORM MAP INPUT`.
 pub(crate) const CONVERT: Word<'static> = Word {
     name: "convert",
-    about: "Prints a trace as a plan that the tools of other planners read, or a plan as a trace",
+    about: "Prints a trace as a plan of other planners, or a plan as a trace",
     example: "Example: fleet convert --to pibt2 ring.map two_robots.trace > plan.txt",
     arguments: &[
         Argument {
             name: "to",
             kind: Kind::RequiredValue("FORM"),
-            help: "The form of the plan: pibt2 (lines of cells), moves (lines of move letters), lorr (the JSON of the League of Robot Runners), agents (paths of agents, as CBS writes them), table (CSV: agent, time, row, column), or yaml (as libMultiRobotPlanning writes it); or trace, if a plan is to become a trace",
+            help: "pibt2 (cells), moves (letters), lorr (JSON of the League of Robot Runners), agents (CBS), table (CSV), yaml, or trace",
         },
         MAP,
         Argument {

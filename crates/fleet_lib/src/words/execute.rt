@@ -25,18 +25,18 @@ pub struct Execute {
 /// `execute [--clearance RULE] [--ahead N] [--form FORM] MAP PLAN`.
 pub(crate) const EXECUTE: Word<'static> = Word {
     name: "execute",
-    about: "Executes a plan of any planner with robots that are not in step: prints which move may begin, and reads which robots have arrived",
+    about: "Executes a plan with robots that are not in step: says which move may begin, reads arrivals",
     example: "Example: fleet execute arena.map plan.txt < reports > moves",
     arguments: &[
         Argument {
             name: "clearance",
             kind: Kind::Value("RULE"),
-            help: "When a robot may move to a cell: once the robot on it has `arrived` on its next one (if not given), or has `started` to leave",
+            help: "When a cell is clear: the robot on it has `arrived` on its next one, or has `started` to leave",
         },
         Argument {
             name: "ahead",
             kind: Kind::Number("N"),
-            help: "How many steps of the plan are looked at that are not reached by all robots; 10 if not given",
+            help: "How many steps are looked at that not all robots reached; 10 if not given",
         },
         FORM,
         MAP,

@@ -22,13 +22,13 @@ pub struct Explain {
 /// `explain [--head] MAP [INPUT]`.
 pub(crate) const EXPLAIN: Word<'static> = Word {
     name: "explain",
-    about: "Says in a sentence what is wrong with a map, or with a script, a trace or a plan on it",
+    about: "Says what is wrong with a map, or with a script, a trace or a plan on it",
     example: "Example: fleet explain ring.map two_robots.script",
     arguments: &[
         Argument {
             name: "head",
             kind: Kind::Flag,
-            help: "Look at INPUT as the header lines that begin `fleet talk` or `fleet live`",
+            help: "Look at INPUT as the header lines of `talk` or `live`",
         },
         MAP,
         Argument {

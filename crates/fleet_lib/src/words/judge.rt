@@ -20,14 +20,14 @@ pub struct Judge {
 /// `judge MAP TRACE..`.
 pub(crate) const JUDGE: Word<'static> = Word {
     name: "judge",
-    about: "Judges traces on a map, each by itself: whether each entry is legal after those before it",
+    about: "Judges traces on a map: whether each entry is legal after those before it",
     example: "Example: fleet judge ring.map history/chapter-*.json",
     arguments: &[
         MAP,
         Argument {
             name: "TRACE",
             kind: Kind::Files,
-            help: "What `fleet talk`, `fleet live`, `errands run --trace` or `errands serve` wrote, of at most 1 GiB; of several, each is named before what is said of it",
+            help: "Traces of `errands`, `talk` or `live`, of at most 1 GiB, each judged by itself",
         },
     ],
 };

@@ -58,7 +58,7 @@ pub struct Live {
 /// [--planner NAME] [--traces DIR] [--resume] [--resume-only] [--keep-every TIME] [--journal] [--recall N] [--chapter-bytes N] [--metrics FILE] MAP [SCRIPT]`.
 pub(crate) const LIVE: Word<'static> = Word {
     name: "live",
-    about: "Keeps a fleet in real time for clients that post errands and are told what became of them",
+    about: "Keeps a fleet in real time for clients that post errands",
     example: "Example: fleet live --robots 0,8 --period 20ms ring.map",
     arguments: &[
         Argument {
@@ -79,7 +79,7 @@ pub(crate) const LIVE: Word<'static> = Word {
         Argument {
             name: "tickers",
             kind: Kind::Value("N"),
-            help: "No word any more: turns go on while a chapter is written",
+            help: "Gone: one loop makes all turns",
         },
         Argument {
             name: "client",
@@ -94,7 +94,7 @@ pub(crate) const LIVE: Word<'static> = Word {
         Argument {
             name: "service",
             kind: Kind::Flag,
-            help: "Go on where standard input ends: only the line `quit` ends the fleet",
+            help: "Only the line `quit` ends the fleet, not the end of the input",
         },
         ROOMY,
         PLANNER,
@@ -109,18 +109,18 @@ pub(crate) const LIVE: Word<'static> = Word {
         Argument {
             name: "journal",
             kind: Kind::Flag,
-            help: "Tell nothing before it is on the disk: what was told stands, whatever becomes of the program",
+            help: "Tell nothing before it is on the disk, so that it stands",
         },
         Argument {
             name: "recall",
             kind: Kind::Value("N"),
-            help: "How many notices of each client are kept for `since`; with --journal 65536 if not given",
+            help: "How many notices of each client are kept for `since`",
         },
         CHAPTER_BYTES,
         Argument {
             name: "metrics",
             kind: Kind::Value("FILE"),
-            help: "Write figures into FILE each second, as Prometheus reads them",
+            help: "Write figures into FILE each second (Prometheus)",
         },
         MAP,
         SCRIPT,

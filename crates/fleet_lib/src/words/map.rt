@@ -28,18 +28,18 @@ pub struct MapJob {
 /// `map --robots N [--cells FILE] [--json] [--prune] [--svg] [--mend] MAP`.
 pub(crate) const MAP_WORD: Word<'static> = Word {
     name: "map",
-    about: "Says what a map offers for N robots: its bridges, its dead ends, the cells that are roomy, and which promises hold",
+    about: "Says what a map offers N robots: bridges, dead ends, roomy cells, promises",
     example: "Example: fleet map --robots 60 --cells stations.txt warehouse.map",
     arguments: &[
         Argument {
             name: "robots",
             kind: Kind::Number("N"),
-            help: "The number of robots, from 1 to 512, which has to be given",
+            help: "The number of robots, from 1 to 512",
         },
         Argument {
             name: "cells",
             kind: Kind::Value("FILE"),
-            help: "Say for how many robots all cells of this file are roomy; each of its words is a cell's number, or its column and row as X,Y",
+            help: "Say for how many robots all cells of this file are roomy: numbers, or X,Y",
         },
         Argument {
             name: "json",
@@ -49,17 +49,17 @@ pub(crate) const MAP_WORD: Word<'static> = Word {
         Argument {
             name: "prune",
             kind: Kind::Flag,
-            help: "Print the map with walls in place of the cells that are not roomy, again and again until all are, and no figures",
+            help: "Print the map with walls for cells that are not roomy, until all are",
         },
         Argument {
             name: "svg",
             kind: Kind::Flag,
-            help: "Print a picture of the map, with its bridges and the cells that are not roomy, as SVG",
+            help: "Print a picture of the map, its bridges and cells that are not roomy (SVG)",
         },
         Argument {
             name: "mend",
             kind: Kind::Flag,
-            help: "Print walls that, opened, make cells roomy, found by a rule of thumb, and how many cells are not roomy then",
+            help: "Print walls that, opened, make cells roomy, by a rule of thumb",
         },
         MAP,
     ],

@@ -22,7 +22,7 @@ pub(crate) const VERSION: &str = "0.1.0";
 /// The program.
 pub(crate) const FLEET: Program<'static> = Program {
     name: "fleet",
-    about: "Looks at fleets of robots: shows traces of what they did and counts figures of them, judges them, judges plans, writes and executes them, says what maps offer, answers lines as they come, and keeps fleets in real time",
+    about: "Keeps fleets of robots, shows and judges what they did, judges and executes plans",
     version: VERSION,
     note: None,
     needs_word: true,

@@ -37,7 +37,7 @@ pub struct Stats {
 /// `stats [--json] [--csv TABLE] MAP TRACE..`.
 pub(crate) const STATS: Word<'static> = Word {
     name: "stats",
-    about: "Prints figures of traces on a map: throughput, service times, waits, detours, refusals",
+    about: "Prints figures of traces: throughput, service times, waits, detours",
     example: "Example: fleet stats --csv errands ring.map two_robots.trace > errands.csv",
     arguments: &[
         Argument {
@@ -48,13 +48,13 @@ pub(crate) const STATS: Word<'static> = Word {
         Argument {
             name: "csv",
             kind: Kind::Value("TABLE"),
-            help: "Print a table: errands, ticks or cells, with a row for each",
+            help: "Print a table of errands, ticks or cells",
         },
         MAP,
         Argument {
             name: "TRACE",
             kind: Kind::Files,
-            help: "What `errands run --trace` or `errands serve` wrote; several are chapters that follow one another; or a plan",
+            help: "Traces of `errands`, `talk` or `live`, chapters in order; or a plan",
         },
     ],
 };

@@ -39,7 +39,7 @@ pub struct Talk {
 /// [SCRIPT]`.
 pub(crate) const TALK: Word<'static> = Word {
     name: "talk",
-    about: "Talks to a fleet: answers each line of standard input as soon as it is read",
+    about: "Talks to a fleet: answers each line as soon as it is read",
     example: "Example: fleet talk ring.map",
     arguments: &[
         Argument {
@@ -50,7 +50,7 @@ pub(crate) const TALK: Word<'static> = Word {
         Argument {
             name: "roll",
             kind: Kind::Flag,
-            help: "Begin the next chapter where one is full, or its text long",
+            help: "Begin the next chapter where one is full or long",
         },
         CHAPTER_BYTES,
         ROOMY,

@@ -49,7 +49,7 @@ pub(crate) const VIEW: Word<'static> = Word {
         Argument {
             name: "TRACE",
             kind: Kind::Files,
-            help: "What `errands run --trace` or `errands serve` wrote; several are chapters that follow one another; or a plan",
+            help: "Traces of `errands`, `talk` or `live`, chapters in order; or a plan",
         },
     ],
 };
