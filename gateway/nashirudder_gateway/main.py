@@ -62,7 +62,7 @@ def words_of(given: Optional[List[str]] = None) -> argparse.Namespace:
                        help="has the chapters and the journal (gateway-data); a fleet that is there goes on")
     words.add_argument("--site", default="site", help="a name for the site")
     words.add_argument("--period", type=milliseconds, default=200.0, help="the time between two turns (200ms)")
-    words.add_argument("--keep-every", type=milliseconds, default=1000.0, help="a chapter is written so often (1s)")
+    words.add_argument("--keep-every", type=milliseconds, default=60_000.0, help="a chapter ends so often (60s)")
     words.add_argument("--bin", help="the program fleet, or its folder")
     words.add_argument("--host", default="127.0.0.1", help="the address to listen at")
     words.add_argument("--port", type=int, default=8080, help="0 takes a free one")

@@ -31,7 +31,7 @@ class SocketErrand(NewErrand):
 
 
 class ErrandView(BaseModel):
-    """An errand. `kept` is true once what `state` says is in a chapter on the disk, and so stands whatever dies."""
+    """An errand. `kept` is true once it has a verdict: then what `state` says is on the fleet's disk, and stands whatever dies."""
 
     id: int
     robot: int

@@ -79,7 +79,7 @@ def show(desk: "Desk", vehicles: Vehicles) -> None:
 
 
 async def settle(vehicles: Vehicles) -> None:
-    """Waits until the vehicles have done what was planned, so that they stand where the last chapter has their robots."""
+    """Waits until the vehicles have done what was planned, so that they stand where the fleet has their robots."""
     end = time.monotonic() + SETTLE_SECONDS
     while vehicles.is_set and not vehicles.is_done and time.monotonic() < end:
         vehicles.look(time.monotonic())

@@ -24,8 +24,8 @@ class Vehicles:
     """`send(topic, message)` hands a message to the broker. A vehicle is released to the next node of its way when its move may begin, as the
     proved `Execution` says it, and to none beyond.
 
-    First each vehicle says where it stands (`is_set` is false until all have). If the fleet goes on from a chapter, they are elsewhere on the
-    plan's way: what was planned after the chapter is undone. Then `plan` takes a placement after the other, while `has_room`."""
+    First each vehicle says where it stands (`is_set` is false until all have). If the fleet goes on, they are on their ways to where the plan has them, and
+    do what is missing. Then `carry_out` takes a placement after the other, while `has_room`."""
 
     def __init__(self, site: str, shape: Tuple[int, int], names: List[Name], plan: PlanLog, clearance: str = "arrived",
                  ahead: int = 10) -> None:
@@ -97,7 +97,7 @@ class Vehicles:
             found = self._where(vehicle, target)
             vehicle.is_elsewhere = found is None
             reached.append(found if found is not None else -1)
-        way = None if -1 in reached else self.log.way_to(target, reached)
+        way = None if -1 in reached else self.log.way_from(reached)
         if way is not None:
             self._open(target.tick, way, reached)
 

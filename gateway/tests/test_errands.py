@@ -16,7 +16,6 @@ class Errands(Case):
             await it.until(lambda: it.desk.journal.find(told["id"]).state == "arrived")
             status, robot, _ = await it.ask("GET", "/robots/0")
             self.assertEqual((status, robot["cell"], robot["state"], robot["goal"]), (200, 18, "free", None))
-            await it.until(lambda: it.desk.journal.find(told["id"]).is_settled)
             last = await it.errand(told["id"])
             self.assertTrue(last["kept"])
             self.assertGreaterEqual(last["tick"], 3)        # three steps from cell 0

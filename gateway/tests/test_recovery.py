@@ -7,12 +7,14 @@ import pathlib
 import re
 import signal
 import sqlite3
+import subprocess
 import unittest.mock
 
-from kit import Case
-from nashirudder_gateway import chapters
+from kit import BIN, RING, Case
 from nashirudder_gateway.desk import Desk
 from nashirudder_gateway.site import BadSite
+
+from nashirudder.finding import program
 
 NEVER = 3_600_000.0
 
@@ -35,18 +37,29 @@ class Recovery(Case):
     async def kill_fleet(self, it):
         os.kill(it.desk.fleet.pid, signal.SIGKILL)
         await it.until(lambda: not it.desk.is_ready)
+        await it.until(lambda: it.desk.is_ready)
 
-    async def test_a_fleet_that_is_killed_before_anything_is_kept(self):
+    def rows(self, *changes):
+        """Changes the journal of a gateway that has ended."""
+        with sqlite3.connect(self.folder / "data" / "journal.db") as rows:
+            for change in changes:
+                rows.execute(change)
+        rows.close()
+
+    async def test_what_was_told_stands_when_the_fleet_is_killed(self):
         async with self.gateway(keep_every=NEVER) as it:
             ids = [(await it.post(robot, cell, f"{robot}-{cell}"))[1]["id"] for robot, cell in ((0, 18), (1, 18), (0, 21))]
             await it.until(lambda: it.desk.journal.find(ids[0]).state == "arrived")
-            await self.kill_fleet(it)
-            self.assertEqual((await it.post(0, 18, "0-18"))[1]["id"], ids[0])      # a key that is known is answered also now
+            told = await it.errand(ids[0])
+            self.assertTrue(told["kept"])
+            os.kill(it.desk.fleet.pid, signal.SIGKILL)
+            await it.until(lambda: not it.desk.is_ready)
+            self.assertEqual((await it.post(0, 18, "0-18"))[1], told)      # a key that is known is answered also now
             self.assertEqual((await it.post(1, 0, "new"))[0], 503)
             await it.until(lambda: it.desk.is_ready)
-            self.assertEqual((await it.post(0, 18, "0-18"))[1]["id"], ids[0])
+            self.assertEqual((await it.post(0, 18, "0-18"))[1], told)
             await it.until(lambda: all(it.desk.journal.find(id).state == "arrived" for id in ids))
-            self.assertEqual(it.desk.counts["gateway_posted_again_total"], 3)
+            self.assertEqual(it.desk.counts["gateway_posted_again_total"], 0)
         taken, came = history(self.folder / "data")
         self.assertEqual((sorted(taken), sorted(came)), ([(0, 18), (0, 21), (1, 18)],) * 2)
 
@@ -60,19 +73,21 @@ class Recovery(Case):
                 await it.until(lambda: it.desk.journal.find(1).state == "arrived")
         self.assertEqual(history(self.folder / "data"), ([(0, 18)], [(0, 18)]))
 
-    async def test_what_is_kept_is_not_posted_again(self):
+    async def test_orders_that_the_fleet_does_not_have_are_posted_again_in_their_order(self):
+        """It is stopped, so that it takes none of them, and then killed."""
         async with self.gateway(period=NEVER, keep_every=NEVER) as it:
-            _, kept, _ = await it.post(0, 18, "kept")
-            await it.ask("POST", "/chapter")
-            await it.until(lambda: it.desk.journal.find(kept["id"]).view()["kept"])
-            _, lost, _ = await it.post(1, 18, "lost")
-            self.assertFalse((await it.errand(lost["id"]))["kept"])
-            await self.kill_fleet(it)
-            await it.until(lambda: it.desk.is_ready and it.desk.journal.find(lost["id"]).state == "accepted")
-            self.assertEqual(it.desk.counts["gateway_posted_again_total"], 1)
-            self.assertEqual([(one["errands"], one["goal"]) for one in (await it.ask("GET", "/robots"))[1]["robots"]], [(1, 18), (1, 18)])
-            self.assertEqual(it.desk.open_of["anyone"], 2)
-        self.assertEqual(history(self.folder / "data")[0], [(0, 18), (1, 18)])
+            self.assertEqual((await it.post(0, 18, "taken"))[0], 201)
+            os.kill(it.desk.fleet.pid, signal.SIGSTOP)
+            lost = [asyncio.ensure_future(it.post(1, cell, f"lost {cell}".replace(" ", "-"))) for cell in (18, 21, 0)]
+            await it.until(lambda: all(it.desk.journal.find(id) is not None and it.desk.journal.find(id).is_written for id in (2, 3, 4)))
+            os.kill(it.desk.fleet.pid, signal.SIGKILL)
+            self.assertEqual([(await one)[0] for one in lost], [202, 202, 202])
+            await it.until(lambda: it.desk.is_ready and it.desk.journal.find(4).state == "accepted")
+            self.assertEqual(it.desk.counts["gateway_posted_again_total"], 3)
+            open_now = await it.desk.fleet.open_errands()
+            self.assertEqual([(one.robot, one.cell, one.place) for one in open_now], [(0, 18, 1), (1, 18, 1), (1, 21, 2), (1, 0, 3)])
+            self.assertEqual([(one["errands"], one["goal"]) for one in (await it.ask("GET", "/robots"))[1]["robots"]], [(1, 18), (3, 18)])
+            self.assertEqual(it.desk.open_of["anyone"], 4)
 
     async def test_a_gateway_that_starts_again_knows_all(self):
         async with self.gateway() as it:
@@ -91,33 +106,59 @@ class Recovery(Case):
             self.assertEqual((status, told["id"]), (201, 3))
             self.assertEqual([one["state"] for one in (await it.ask("GET", "/robots"))[1]["robots"]], ["busy", "shut"])
 
+    async def test_a_robot_that_was_to_be_shut_is_shut_by_the_next_fleet(self):
+        async with self.gateway(period=NEVER) as it:
+            it.desk.journal.write_shut(1)               # and the gateway died before the fleet heard of it
+        async with self.gateway(period=NEVER) as it:
+            self.assertEqual((await it.post(1, 18))[1]["error"], "robot-shut")
+        self.rows("delete from shut")
+        async with self.gateway(period=NEVER) as it:    # what the journal does not know shows with the next refusal
+            self.assertEqual((await it.ask("GET", "/robots/1"))[1]["state"], "free")
+            await it.post(1, 18)
+            self.assertEqual((await it.ask("GET", "/robots/1"))[1]["state"], "shut")
+
     async def test_errands_that_are_old_are_removed_and_their_ids_are_not_given_again(self):
         async with self.gateway(period=NEVER) as it:
             self.assertEqual((await it.post(0, 7, "a"))[0], 422)
             await it.post(0, 18, "b")
-            await it.until(lambda: it.desk.journal.find(1).is_written and 1 not in it.desk.journal.unsettled)
+            await it.until(lambda: it.desk.journal.find(1).is_written and 1 not in it.desk.journal.open)
             it.desk.journal.remove_before(it.desk.journal.find(2).changed + 1e9)
             self.assertIsNone(it.desk.journal.find(1))
             self.assertEqual((await it.errand(2))["key"], "b")
-        with sqlite3.connect(self.folder / "data" / "journal.db") as rows:
-            rows.execute("delete from errands")
+        self.rows("delete from errands")
         async with self.gateway(period=NEVER) as it:
             await it.until(lambda: it.desk.journal.find(3) is not None)        # of the fleet's errand, which nobody knows now
 
     async def test_a_withdrawal_that_was_told_stands(self):
         async with self.gateway(period=NEVER, keep_every=NEVER) as it:
-            for cell in (18, 21):
+            for cell in (18, 21, 3):
                 await it.post(0, cell)
-            await it.ask("POST", "/chapter")
-            await it.until(lambda: it.desk.journal.find(2).view()["kept"])
-            await it.post(0, 3)
             for id in (2, 3):
                 self.assertEqual((await it.ask("DELETE", f"/errands/{id}"))[0], 200)
             await self.kill_fleet(it)
-            await it.until(lambda: it.desk.is_ready and not it.desk.unanswered)
             open_now = await it.desk.fleet.open_errands()
             self.assertEqual([(one.robot, one.cell) for one in open_now], [(0, 18)])
             self.assertEqual([(await it.errand(id))["state"] for id in (2, 3)], ["withdrawn", "withdrawn"])
+
+    async def test_what_the_gateway_did_not_hear_is_told_again(self):
+        """Its journal is that of a moment before: the verdicts, the arrivals and the withdrawal came after it."""
+        async with self.gateway() as it:
+            await it.post(1, 12, "before")
+            await it.until(lambda: it.desk.journal.find(1).state == "arrived")
+        async with self.gateway(period=300.0) as it:
+            heard = it.desk.journal.heard
+            for cell in (18, 21, 3, 7):
+                await it.post(0, cell, f"{cell}")
+            self.assertEqual((await it.ask("DELETE", "/errands/4"))[0], 200)
+            await it.until(lambda: it.desk.journal.find(3).state == "arrived")
+            wanted = [await it.errand(id) for id in range(1, 5)]
+        self.rows("update errands set state = 'posted', accepted = null, tick = null where id in (2, 3)", f"update facts set value = {heard}",
+                  "update errands set state = 'accepted' where id = 4", "update errands set state = 'posted', reason = null, key = '7' where id = 5")
+        async with self.gateway(period=NEVER) as it:
+            self.assertEqual([await it.errand(id) for id in range(1, 5)], wanted)
+            self.assertEqual(((await it.errand(5))["reason"], (await it.errand(5))["key"]), ("blocked", None))
+            self.assertEqual([it.desk.counts[f"gateway_{word}_total"] for word in ("adopted", "lost", "posted_again")], [0, 0, 0])
+            self.assertEqual(it.desk.open_of["anyone"], 0)
 
     async def test_a_journal_that_was_lost(self):
         async with self.gateway(period=NEVER) as it:
@@ -129,35 +170,81 @@ class Recovery(Case):
             await it.until(lambda: it.desk.journal.find(1).state == "arrived")
             await it.post(1, 21, "b")
             await it.until(lambda: it.desk.journal.find(2).state == "arrived")
+            self.assertEqual(it.desk.open_of.total(), 0)
         self.assertEqual(history(self.folder / "data")[0], [(0, 18), (1, 21)])
 
     async def test_an_intent_without_its_post(self):
         """The gateway died between the disk and the pipe, or after: both look so in the journal."""
         async with self.gateway(period=NEVER) as it:
             await it.post(0, 18, "posted")
-        with sqlite3.connect(self.folder / "data" / "journal.db") as rows:
-            rows.execute("update errands set state = 'posted', accepted = null, kept = 0")
-            rows.execute("update facts set value = 0")
-            rows.execute("insert into errands values (2, 'anyone', 'not-posted', 1, 18, 2, null, 'posted', null, null, 0, 0)")
+        self.rows("update errands set state = 'posted', accepted = null", "update facts set value = 0",
+                  "insert into errands values (2, 'anyone', 'not-posted', 1, 18, 2, null, 'posted', null, null, 0)")
         async with self.gateway() as it:
             await it.until(lambda: all(it.desk.journal.find(id).state == "arrived" for id in (1, 2)))
             self.assertEqual([(await it.post(*words))[1].get("id", "?") for words in ((0, 18, "posted"), (1, 18, "not-posted"))], [1, 2])
         taken, came = history(self.folder / "data")
         self.assertEqual((taken, sorted(came)), ([(0, 18), (1, 18)], [(0, 18), (1, 18)]))
 
-    async def test_a_journal_of_another_time(self):
-        """Its number has another errand in the chapters: both are in the history."""
+    async def refused(self, says):
+        gateway = self.gateway(period=NEVER)
+        with self.assertRaises(BadSite) as caught:
+            await gateway.__aenter__()
+        await gateway.session.close()
+        await gateway.server.close()
+        self.assertIn(says, str(caught.exception))
+
+    async def test_a_journal_of_another_fleet_is_refused(self):
         async with self.gateway(period=NEVER) as it:
             await it.post(0, 18, "a")
-        with sqlite3.connect(self.folder / "data" / "journal.db") as rows:
-            rows.execute("update errands set cell = 21, state = 'posted', accepted = null, kept = 0")
-            rows.execute("update facts set value = 0")
+        self.rows("update errands set cell = 21")
+        await self.refused("is not of this fleet: its errand 1 goes elsewhere")
+        self.rows("update errands set cell = 18", "update facts set value = 2")
+        await self.refused("has heard notice 2, and the fleet has told 1")
+        self.rows("update facts set value = 1")
+        async with self.gateway(period=NEVER) as it:
+            self.assertEqual((await it.post(0, 18, "a"))[0], 200)
+
+    async def test_chapters_that_are_missing(self):
         async with self.gateway() as it:
+            await it.post(0, 18, "a")
             await it.until(lambda: it.desk.journal.find(1).state == "arrived")
-        self.assertEqual(history(self.folder / "data")[0], [(0, 18), (0, 21)])
+            await it.ask("POST", "/chapter")
+            await it.post(1, 18, "b")
+            await it.until(lambda: it.desk.journal.find(2).state == "arrived")
+            for _ in range(2):
+                await it.ask("POST", "/chapter")
+        there = sorted((self.folder / "data" / "chapters").glob("chapter-*.json"), key=lambda it: int(re.search(r"(\d+)\.json", it.name)[1]))
+        for path in there[:-1]:
+            path.unlink()
+        self.rows("update errands set state = 'accepted', tick = null where id = 1", "update errands set state = 'posted', tick = null where id = 2",
+                  "update facts set value = 1")
+        async with self.gateway(period=NEVER) as it:
+            self.assertEqual([(await it.errand(id))["state"] for id in (1, 2)], ["lost", "lost"])
+            self.assertEqual(it.desk.counts["gateway_lost_total"], 2)
+
+    async def test_the_folder_of_an_earlier_gateway_is_taken_over(self):
+        """One that was killed: what no chapter has is gone, though it was told. Its rows say what its last process told."""
+        data = self.folder / "data"
+        (data / "chapters").mkdir(parents=True)
+        (self.folder / "ring.map").write_text(RING)
+        head = self.folder / "head"
+        head.write_text("robots 0 3\nclients 1\nlane 65536\nmailbox 65536\noutlet 4096\nqueue 1024\n")
+        lines = "post 0 go 0 6\npost 0 go 0 18\npost 0 go 1 12\ntick\npost 0 go 0 21\npost 0 withdraw 4\n"
+        subprocess.run([program(BIN), "live", "--traces", data / "chapters", self.folder / "ring.map", head], input=lines, text=True, check=True,
+                       capture_output=True)
+        with sqlite3.connect(data / "journal.db") as rows:
+            rows.executescript(EARLIER)
+        rows.close()
+        async with self.gateway(period=NEVER) as it:
+            states = [(await it.errand(id))["state"] for id in range(1, 8)]
+            self.assertEqual(states, ["arrived", "accepted", "accepted", "withdrawn", "accepted", "refused", "accepted"])
+            self.assertEqual(it.desk.counts["gateway_posted_again_total"], 2)
+            open_now = await it.desk.fleet.open_errands()
+            self.assertEqual([(one.robot, one.cell) for one in open_now], [(0, 18), (0, 20), (1, 12), (1, 19)])
+            self.assertEqual((await it.post(0, 20, "e"))[1]["id"], 5)
 
     async def test_a_disk_that_is_full_for_a_while(self):
-        async with self.gateway() as it:
+        async with self.gateway(period=NEVER) as it:
             write, full = it.desk.journal.write, True
 
             def maybe(batch):
@@ -170,17 +257,29 @@ class Recovery(Case):
             await it.until(lambda: "disk is full" in it.desk.trouble)
             self.assertEqual((await it.ask("GET", "/ready"))[0], 503)
             self.assertEqual((await posted)[0], 503)          # it may be taken later: the key says whether it was
+            os.kill(it.desk.fleet.pid, signal.SIGKILL)        # what was to be written is not forgotten
+            await it.until(lambda: "status -9" in it.desk.trouble)
             full = False
             await it.until(lambda: it.desk.is_ready)
-            await it.until(lambda: it.desk.journal.find(1).state == "arrived")
+            await it.until(lambda: it.desk.journal.find(1).state == "accepted")
             self.assertEqual((await it.post(0, 18, "a"))[0], 200)
 
-    async def test_a_chapter_that_is_missing(self):
-        async with self.gateway() as it:
-            await it.post(0, 18)
-            await it.ask("POST", "/chapter")
-            await it.ask("POST", "/chapter")
-        first, *_ = chapters.numbers(self.folder / "data" / "chapters")
-        with self.assertRaises(chapters.Gap):
-            (self.folder / "data" / "chapters" / f"chapter-{first}.json").unlink()
-            chapters.read(self.folder / "data" / "chapters", first)
+
+# As an earlier gateway wrote it: kept is 0 where no chapter had the errand's verdict, 1 where one had that and not its end, 2 where one had its end. Errands
+# 2 and 5 were told as arrived and accepted, and no chapter has that; 7 was never posted.
+EARLIER = """
+create table errands (
+    id integer primary key autoincrement, owner text not null, key text, robot integer not null, cell integer not null,
+    number integer, accepted integer, state text not null, reason text, tick integer, kept integer not null,
+    changed real not null);
+create unique index by_key on errands (owner, key) where key is not null;
+create index by_owner on errands (owner, id);
+create index unsettled on errands (kept) where kept < 2;
+create table facts (name text primary key, value integer not null);
+insert into facts values ('next_chapter', 1);
+insert into errands values
+    (1, 'anyone', 'a', 0, 6, 1, 1, 'accepted', null, null, 1, 1), (2, 'anyone', 'b', 0, 18, 2, 2, 'arrived', null, 9, 1, 1),
+    (3, 'anyone', 'c', 1, 12, 3, null, 'posted', null, null, 0, 1), (4, 'anyone', 'd', 0, 21, 4, 4, 'withdrawn', null, null, 2, 1),
+    (5, 'anyone', 'e', 0, 20, 6, 5, 'accepted', null, null, 0, 1), (6, 'anyone', null, 0, 7, 5, null, 'refused', 'blocked', null, 2, 1),
+    (7, 'anyone', 'g', 1, 19, null, null, 'posted', null, null, 0, 1);
+"""

@@ -208,7 +208,7 @@ class Vehicles(Case):
             self.assertEqual([cell_of(it.last) for it in driven], gateway.desk.vehicles.log.placements[-1].cells)
         self.no_fault()
 
-    async def test_after_a_kill_vehicles_come_back_to_the_chapter(self):
+    async def test_after_a_kill_vehicles_go_on_with_the_plan(self):
         driven, errands = None, {}
         for turn in range(3):
             gateway = self.gateway(broker=self.broker.address, keep_every=300.0)
