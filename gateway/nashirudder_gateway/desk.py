@@ -9,7 +9,7 @@ import sqlite3
 import time
 from typing import Any, Callable, Deque, List, Optional, Union
 
-from nashirudder.errors import FleetError, Missing, Refused
+from nashirudder.errors import Ended, FleetError, Missing, Refused
 from nashirudder.events import Arrived, Event, Judged, Moved, NotPosted, Over, Posted
 from nashirudder.stream import FleetStream
 
@@ -27,7 +27,7 @@ AGAIN = ("queue-full", "lane-full")
 # How many errands may be open, and how many posts be without a verdict: the fleet's mailbox then always has room
 MOST_OPEN, MOST_UNANSWERED = 60_000, 5_000
 # Seconds between looks at the fleet, and after which something is stuck
-LOOK_EVERY, STUCK = 1.0, 10.0
+LOOK_EVERY, STUCK, RECOVERY = 1.0, 10.0, 120.0
 HOUR, DAY = 3600.0, 86_400.0
 
 
@@ -35,8 +35,13 @@ class Wrong(Exception):
     """The fleet does not do what was expected: it has to be started again, and asked what it has."""
 
 
+def _may_be_over(error: Exception) -> bool:
+    """Whether the next start may go well: the fleet was killed, or the last one still ends."""
+    return isinstance(error, Ended) and (error.status or 0) < 0 or "is in use by another fleet" in str(error)
+
+
 class Desk(Ledger):
-    """A ledger with its fleet. `run` keeps the fleet until `close`; a fleet that ends is started again."""
+    """A ledger with its fleet. `run` keeps the fleet until `close`; a fleet that ends is started again. Then `end` is to be called."""
 
     def __init__(self, site: Site, tell: Callable[..., None], keep_days: float = 7.0, vehicles: Optional[Vehicles] = None) -> None:
         super().__init__(site, tell)
@@ -85,6 +90,7 @@ class Desk(Ledger):
 
     async def shut(self, robot: int) -> List[str]:
         """Shuts a robot, for good: that it is to be is on the disk before the fleet hears of it. Returns the fleet's answer."""
+        self._need_fleet()
         await self.on_disk(self.journal.write_shut, robot)
         self.journal.shut.add(robot)
         self.robots.shut.add(robot)
@@ -92,9 +98,12 @@ class Desk(Ledger):
 
     async def ask(self, line: str) -> List[str]:
         """The fleet's answer of one line. Raises FleetError if it is not there."""
+        return (await self._need_fleet().ask(line))[0]
+
+    def _need_fleet(self) -> FleetStream:
         if self.fleet is None or not self.is_ready:
             raise FleetError(self.trouble)
-        return (await self.fleet.ask(line))[0]
+        return self.fleet
 
     def wake(self) -> None:
         """Something is to be posted, or written down."""
@@ -113,8 +122,7 @@ class Desk(Ledger):
                     if not self.is_closing:
                         await self._serve(self.fleet)
                 except (FleetError, Wrong, OSError) as error:
-                    in_use = "is in use by another fleet" in str(error)
-                    if isinstance(error, (Refused, Missing)) or not was_here and not in_use:
+                    if isinstance(error, (Refused, Missing)) or not was_here and not _may_be_over(error):
                         raise
                     log.warning("not ready: %s", error)
                     self._stop(str(error))
@@ -123,12 +131,17 @@ class Desk(Ledger):
                     await asyncio.sleep(0.5)
         finally:
             await self._end_fleet(STUCK)
-            await self._write_down()
+            # where that fails the next fleet tells it again
+            while (batch := self.journal.batch()) is not None and await self._is_written(batch):
+                self.journal.settle(batch)
             self._disk.shutdown()
-            if self.vehicles is not None:
-                self.vehicles.log.close()
-            self.journal.close()
-            self.lock.close()
+
+    def end(self) -> None:
+        """Closes the files, once `run` has ended and nobody asks any more."""
+        if self.vehicles is not None:
+            self.vehicles.log.close()
+        self.journal.close()
+        self.lock.close()
 
     async def _end_fleet(self, seconds: float) -> None:
         if self.fleet is not None:
@@ -136,7 +149,7 @@ class Desk(Ledger):
 
     async def _serve(self, fleet: FleetStream) -> None:
         """Recovers, and then posts and hears until the fleet ends or something is wrong."""
-        await recovery.recover(self, fleet)
+        await asyncio.wait_for(recovery.recover(self, fleet), RECOVERY)
         self.is_ready, self.trouble, self.latest_turn = True, "", time.monotonic()
         log.info("ready at tick %d", self.tick)
         works, vehicles = [self._hear(fleet), self._post(fleet), self._look(fleet)], self.vehicles
@@ -150,8 +163,10 @@ class Desk(Ledger):
             for task in done:
                 task.result()
         finally:
-            for task in tasks:
-                task.cancel()
+            while not all(it.done() for it in tasks):   # asyncio.wait_for of Python 3.11 may swallow a cancellation
+                for task in tasks:
+                    task.cancel()
+                await asyncio.wait(tasks, timeout=0.1)
             await asyncio.gather(*tasks, return_exceptions=True)
             self._stop("the fleet ended")
 
@@ -175,6 +190,7 @@ class Desk(Ledger):
 
     async def _post(self, fleet: FleetStream) -> None:
         """Errands go to the disk, and then to the fleet, in the order of their numbers."""
+        await self._write_down()                # what an earlier fleet's end kept from being written
         while True:
             await self._wake.wait()
             self._wake.clear()
@@ -223,8 +239,8 @@ class Desk(Ledger):
             self.trouble, self.is_ready = f"the journal cannot be written: {error}", False
             log.error("%s", self.trouble)
             return False
-        if self.trouble.startswith("the journal") and not self.is_closing:
-            self.trouble, self.is_ready = "", True
+        if self.trouble.startswith("the journal"):
+            self.trouble, self.is_ready = "", not self.is_closing
         return True
 
     async def _look(self, fleet: FleetStream) -> None:

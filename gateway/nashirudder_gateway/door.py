@@ -180,6 +180,7 @@ class Door:
                   f"gateway_sockets_dropped_total {self.seats.dropped}"]
         if desk.vehicles is not None:
             lines += [f"gateway_vehicle_moves_total {desk.vehicles.moves}", f"gateway_vehicle_messages_bad_total {desk.vehicles.bad_messages}",
+                      f"gateway_vehicle_factsheets_bad {sum(it.factsheet_fault is not None for it in desk.vehicles.all)}",
                       f"gateway_vehicles_in_trouble {sum(it.trouble is not None for it in desk.vehicles.all)}"]
         return web.Response(text=(figures.read_text() if figures.exists() else "") + "\n".join(lines) + "\n")
 

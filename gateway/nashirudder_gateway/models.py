@@ -52,7 +52,8 @@ class ErrandList(BaseModel):
 
 class VehicleView(BaseModel):
     """A robot's vehicle. `cell` is the one that it reached last, `bound_for` the one to which it is released, and `planned` how many moves come
-    after that. `trouble` keeps it from being sent on."""
+    after that. `trouble` keeps it from being sent on. `speed`, the greatest in metres a second, and `length` and `width` in metres are those of its factsheet; null without one.
+    `factsheet_fault` is what is wrong with the last one."""
 
     robot: int
     vehicle: str
@@ -60,6 +61,10 @@ class VehicleView(BaseModel):
     bound_for: Optional[int]
     planned: int
     trouble: Optional[str]
+    speed: Optional[float]
+    length: Optional[float]
+    width: Optional[float]
+    factsheet_fault: Optional[str]
 
 
 class VehicleList(BaseModel):
@@ -96,6 +101,7 @@ class SiteView(BaseModel):
     rows: List[str]
     robots: int
     period_ms: float
+    planner: str = Field(..., regex="^(plain|turns)$")
     queue: int
     tick: int
 

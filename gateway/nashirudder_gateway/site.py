@@ -5,6 +5,7 @@ import pathlib
 from dataclasses import dataclass, field
 from typing import IO, Dict, List, Optional
 
+from nashirudder.opening import Planner
 from nashirudder.stream import FleetStream
 
 # What one client of the fleet may have: the gateway is that client, and limits its own clients below it
@@ -29,6 +30,7 @@ class Site:
     period_ms: float = 100.0
     keep_every_ms: float = 60_000.0
     built: Optional[str] = None
+    planner: Planner = "plain"
     # whether vehicles carry out the plan: then a turn is made where it is asked for
     has_vehicles: bool = False
     rows: List[str] = field(default_factory=list)
@@ -61,11 +63,11 @@ class Site:
         return await FleetStream.open(
             self.map, self.robots, period_ms=None if self.has_vehicles else self.period_ms, watch=not self.has_vehicles,
             traces=self.chapters, resume=True, journal=True, recall=RECALL, keep_every_ms=self.keep_every_ms, metrics=self.figures, built=self.built,
-            **self.limits)  # type: ignore[arg-type]
+            planner=self.planner, **self.limits)  # type: ignore[arg-type]
 
     def view(self) -> dict:
         return {"name": self.name, "width": len(self.rows[0]), "height": len(self.rows), "rows": self.rows,
-                "robots": len(self.robots), "period_ms": self.period_ms, "queue": self.limits["queue"]}
+                "robots": len(self.robots), "period_ms": self.period_ms, "planner": self.planner, "queue": self.limits["queue"]}
 
 
 def rows_of(path: pathlib.Path) -> List[str]:

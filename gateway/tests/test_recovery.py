@@ -1,20 +1,21 @@
 """What is known of each errand after the fleet or the gateway died: compared with the chapters, which are the history."""
 
 import asyncio
+import contextlib
 import json
 import os
 import pathlib
 import re
 import signal
 import sqlite3
-import subprocess
 import unittest.mock
 
-from kit import BIN, RING, Case
+from kit import Case
 from nashirudder_gateway.desk import Desk
-from nashirudder_gateway.site import BadSite
+from nashirudder_gateway.site import BadSite, Site
 
-from nashirudder.finding import program
+from nashirudder.errors import Ended
+from nashirudder.stream import FleetStream
 
 NEVER = 3_600_000.0
 
@@ -33,18 +34,18 @@ def history(folder):
     return taken, came
 
 
+def change(folder, *changes):
+    """Changes the journal of a gateway that has ended."""
+    with contextlib.closing(sqlite3.connect(folder / "data" / "journal.db")) as rows, rows:
+        for it in changes:
+            rows.execute(it)
+
+
 class Recovery(Case):
     async def kill_fleet(self, it):
         os.kill(it.desk.fleet.pid, signal.SIGKILL)
         await it.until(lambda: not it.desk.is_ready)
         await it.until(lambda: it.desk.is_ready)
-
-    def rows(self, *changes):
-        """Changes the journal of a gateway that has ended."""
-        with sqlite3.connect(self.folder / "data" / "journal.db") as rows:
-            for change in changes:
-                rows.execute(change)
-        rows.close()
 
     async def test_what_was_told_stands_when_the_fleet_is_killed(self):
         async with self.gateway(keep_every=NEVER) as it:
@@ -64,7 +65,7 @@ class Recovery(Case):
         self.assertEqual((sorted(taken), sorted(came)), ([(0, 18), (0, 21), (1, 18)],) * 2)
 
     async def test_a_fleet_that_hangs_is_started_again(self):
-        with unittest.mock.patch("nashirudder_gateway.desk.STUCK", 1.0):
+        with unittest.mock.patch("nashirudder_gateway.desk.STUCK", 3.0):
             async with self.gateway() as it:
                 await it.post(0, 18, "a")
                 hung = it.desk.fleet.pid
@@ -72,6 +73,36 @@ class Recovery(Case):
                 await it.until(lambda: it.desk.is_ready and it.desk.fleet.pid != hung)
                 await it.until(lambda: it.desk.journal.find(1).state == "arrived")
         self.assertEqual(history(self.folder / "data"), ([(0, 18)], [(0, 18)]))
+
+    async def test_a_cancellation_that_is_swallowed(self):
+        """As asyncio.wait_for does it where what it waits for comes at the same moment."""
+        swallowed = []
+
+        async def look(_desk, _fleet):
+            try:
+                await asyncio.sleep(3600)
+            except asyncio.CancelledError:
+                swallowed.append(True)
+            await asyncio.sleep(3600)
+
+        with unittest.mock.patch.object(Desk, "_look", look):
+            async with self.gateway() as it:
+                await self.kill_fleet(it)
+                self.assertEqual(swallowed, [True])
+
+    async def test_a_fleet_that_is_killed_while_it_starts(self):
+        async def killed(_site):
+            raise Ended(-9, "")
+
+        gateway = self.gateway()
+        with unittest.mock.patch.object(Site, "start", killed):
+            entering = asyncio.ensure_future(gateway.__aenter__())
+            for _ in range(12_000):
+                if "status -9" in getattr(getattr(gateway, "desk", None), "trouble", ""):
+                    break
+                await asyncio.sleep(0.01)
+        await entering
+        await gateway.__aexit__()
 
     async def test_orders_that_the_fleet_does_not_have_are_posted_again_in_their_order(self):
         """It is stopped, so that it takes none of them, and then killed."""
@@ -111,7 +142,7 @@ class Recovery(Case):
             it.desk.journal.write_shut(1)               # and the gateway died before the fleet heard of it
         async with self.gateway(period=NEVER) as it:
             self.assertEqual((await it.post(1, 18))[1]["error"], "robot-shut")
-        self.rows("delete from shut")
+        change(self.folder, "delete from shut")
         async with self.gateway(period=NEVER) as it:    # what the journal does not know shows with the next refusal
             self.assertEqual((await it.ask("GET", "/robots/1"))[1]["state"], "free")
             await it.post(1, 18)
@@ -125,7 +156,7 @@ class Recovery(Case):
             it.desk.journal.remove_before(it.desk.journal.find(2).changed + 1e9)
             self.assertIsNone(it.desk.journal.find(1))
             self.assertEqual((await it.errand(2))["key"], "b")
-        self.rows("delete from errands")
+        change(self.folder, "delete from errands")
         async with self.gateway(period=NEVER) as it:
             await it.until(lambda: it.desk.journal.find(3) is not None)        # of the fleet's errand, which nobody knows now
 
@@ -152,7 +183,7 @@ class Recovery(Case):
             self.assertEqual((await it.ask("DELETE", "/errands/4"))[0], 200)
             await it.until(lambda: it.desk.journal.find(3).state == "arrived")
             wanted = [await it.errand(id) for id in range(1, 5)]
-        self.rows("update errands set state = 'posted', accepted = null, tick = null where id in (2, 3)", f"update facts set value = {heard}",
+        change(self.folder, "update errands set state = 'posted', accepted = null, tick = null where id in (2, 3)", f"update facts set value = {heard}",
                   "update errands set state = 'accepted' where id = 4", "update errands set state = 'posted', reason = null, key = '7' where id = 5")
         async with self.gateway(period=NEVER) as it:
             self.assertEqual([await it.errand(id) for id in range(1, 5)], wanted)
@@ -160,24 +191,11 @@ class Recovery(Case):
             self.assertEqual([it.desk.counts[f"gateway_{word}_total"] for word in ("adopted", "lost", "posted_again")], [0, 0, 0])
             self.assertEqual(it.desk.open_of["anyone"], 0)
 
-    async def test_a_journal_that_was_lost(self):
-        async with self.gateway(period=NEVER) as it:
-            await it.post(0, 18, "a")
-        for path in (self.folder / "data").glob("journal*"):
-            path.unlink()
-        async with self.gateway(period=300.0) as it:
-            self.assertEqual(it.desk.counts["gateway_adopted_total"], 1)
-            await it.until(lambda: it.desk.journal.find(1).state == "arrived")
-            await it.post(1, 21, "b")
-            await it.until(lambda: it.desk.journal.find(2).state == "arrived")
-            self.assertEqual(it.desk.open_of.total(), 0)
-        self.assertEqual(history(self.folder / "data")[0], [(0, 18), (1, 21)])
-
     async def test_an_intent_without_its_post(self):
         """The gateway died between the disk and the pipe, or after: both look so in the journal."""
         async with self.gateway(period=NEVER) as it:
             await it.post(0, 18, "posted")
-        self.rows("update errands set state = 'posted', accepted = null", "update facts set value = 0",
+        change(self.folder, "update errands set state = 'posted', accepted = null", "update facts set value = 0",
                   "insert into errands values (2, 'anyone', 'not-posted', 1, 18, 2, null, 'posted', null, null, 0)")
         async with self.gateway() as it:
             await it.until(lambda: all(it.desk.journal.find(id).state == "arrived" for id in (1, 2)))
@@ -185,66 +203,9 @@ class Recovery(Case):
         taken, came = history(self.folder / "data")
         self.assertEqual((taken, sorted(came)), ([(0, 18), (1, 18)], [(0, 18), (1, 18)]))
 
-    async def refused(self, says):
-        gateway = self.gateway(period=NEVER)
-        with self.assertRaises(BadSite) as caught:
-            await gateway.__aenter__()
-        await gateway.session.close()
-        await gateway.server.close()
-        self.assertIn(says, str(caught.exception))
-
-    async def test_a_journal_of_another_fleet_is_refused(self):
-        async with self.gateway(period=NEVER) as it:
-            await it.post(0, 18, "a")
-        self.rows("update errands set cell = 21")
-        await self.refused("is not of this fleet: its errand 1 goes elsewhere")
-        self.rows("update errands set cell = 18", "update facts set value = 2")
-        await self.refused("has heard notice 2, and the fleet has told 1")
-        self.rows("update facts set value = 1")
-        async with self.gateway(period=NEVER) as it:
-            self.assertEqual((await it.post(0, 18, "a"))[0], 200)
-
-    async def test_chapters_that_are_missing(self):
-        async with self.gateway() as it:
-            await it.post(0, 18, "a")
-            await it.until(lambda: it.desk.journal.find(1).state == "arrived")
-            await it.ask("POST", "/chapter")
-            await it.post(1, 18, "b")
-            await it.until(lambda: it.desk.journal.find(2).state == "arrived")
-            for _ in range(2):
-                await it.ask("POST", "/chapter")
-        there = sorted((self.folder / "data" / "chapters").glob("chapter-*.json"), key=lambda it: int(re.search(r"(\d+)\.json", it.name)[1]))
-        for path in there[:-1]:
-            path.unlink()
-        self.rows("update errands set state = 'accepted', tick = null where id = 1", "update errands set state = 'posted', tick = null where id = 2",
-                  "update facts set value = 1")
-        async with self.gateway(period=NEVER) as it:
-            self.assertEqual([(await it.errand(id))["state"] for id in (1, 2)], ["lost", "lost"])
-            self.assertEqual(it.desk.counts["gateway_lost_total"], 2)
-
-    async def test_the_folder_of_an_earlier_gateway_is_taken_over(self):
-        """One that was killed: what no chapter has is gone, though it was told. Its rows say what its last process told."""
-        data = self.folder / "data"
-        (data / "chapters").mkdir(parents=True)
-        (self.folder / "ring.map").write_text(RING)
-        head = self.folder / "head"
-        head.write_text("robots 0 3\nclients 1\nlane 65536\nmailbox 65536\noutlet 4096\nqueue 1024\n")
-        lines = "post 0 go 0 6\npost 0 go 0 18\npost 0 go 1 12\ntick\npost 0 go 0 21\npost 0 withdraw 4\n"
-        subprocess.run([program(BIN), "live", "--traces", data / "chapters", self.folder / "ring.map", head], input=lines, text=True, check=True,
-                       capture_output=True)
-        with sqlite3.connect(data / "journal.db") as rows:
-            rows.executescript(EARLIER)
-        rows.close()
-        async with self.gateway(period=NEVER) as it:
-            states = [(await it.errand(id))["state"] for id in range(1, 8)]
-            self.assertEqual(states, ["arrived", "accepted", "accepted", "withdrawn", "accepted", "refused", "accepted"])
-            self.assertEqual(it.desk.counts["gateway_posted_again_total"], 2)
-            open_now = await it.desk.fleet.open_errands()
-            self.assertEqual([(one.robot, one.cell) for one in open_now], [(0, 18), (0, 20), (1, 12), (1, 19)])
-            self.assertEqual((await it.post(0, 20, "e"))[1]["id"], 5)
-
     async def test_a_disk_that_is_full_for_a_while(self):
         async with self.gateway(period=NEVER) as it:
+            self.assertEqual([(await it.post(0, cell))[0] for cell in (18, 21)], [201, 201])
             write, full = it.desk.journal.write, True
 
             def maybe(batch):
@@ -253,33 +214,27 @@ class Recovery(Case):
                 write(batch)
 
             it.desk.journal.write = maybe
-            posted = asyncio.ensure_future(it.post(0, 18, "a"))
+            # at once, as the fleet's orders 3 and 4
+            back = asyncio.ensure_future(it.desk.withdraw(it.desk.journal.find(2), 0.1))
+            await asyncio.sleep(0)
+            it.desk.post("anyone", 1, 18, "a")
             await it.until(lambda: "disk is full" in it.desk.trouble)
+            self.assertEqual(it.desk.journal.find(3).number, 4)
+            with unittest.mock.patch("nashirudder_gateway.door.VERDICT_SECONDS", 0.1):
+                self.assertEqual((await it.post(1, 18, "a"))[0], 503)       # it may be taken later: the key says whether it was
+            self.assertEqual((await it.post(1, 18, "b"))[0], 503)
             self.assertEqual((await it.ask("GET", "/ready"))[0], 503)
-            self.assertEqual((await posted)[0], 503)          # it may be taken later: the key says whether it was
-            os.kill(it.desk.fleet.pid, signal.SIGKILL)        # what was to be written is not forgotten
+            os.kill(it.desk.fleet.pid, signal.SIGKILL)
             await it.until(lambda: "status -9" in it.desk.trouble)
-            full = False
-            await it.until(lambda: it.desk.is_ready)
-            await it.until(lambda: it.desk.journal.find(1).state == "accepted")
-            self.assertEqual((await it.post(0, 18, "a"))[0], 200)
+            self.assertIsNone(await back)
+            full, heard, go = False, [], FleetStream.go
 
+            def hear(fleet, robot, cell, client=0, note=None):
+                """What the disk has when the fleet hears of an errand."""
+                with contextlib.closing(sqlite3.connect(self.folder / "data" / "journal.db")) as rows:
+                    heard.append(rows.execute("select number, state from errands where id = ?", (note.id,)).fetchone())
+                go(fleet, robot, cell, client, note)
 
-# As an earlier gateway wrote it: kept is 0 where no chapter had the errand's verdict, 1 where one had that and not its end, 2 where one had its end. Errands
-# 2 and 5 were told as arrived and accepted, and no chapter has that; 7 was never posted.
-EARLIER = """
-create table errands (
-    id integer primary key autoincrement, owner text not null, key text, robot integer not null, cell integer not null,
-    number integer, accepted integer, state text not null, reason text, tick integer, kept integer not null,
-    changed real not null);
-create unique index by_key on errands (owner, key) where key is not null;
-create index by_owner on errands (owner, id);
-create index unsettled on errands (kept) where kept < 2;
-create table facts (name text primary key, value integer not null);
-insert into facts values ('next_chapter', 1);
-insert into errands values
-    (1, 'anyone', 'a', 0, 6, 1, 1, 'accepted', null, null, 1, 1), (2, 'anyone', 'b', 0, 18, 2, 2, 'arrived', null, 9, 1, 1),
-    (3, 'anyone', 'c', 1, 12, 3, null, 'posted', null, null, 0, 1), (4, 'anyone', 'd', 0, 21, 4, 4, 'withdrawn', null, null, 2, 1),
-    (5, 'anyone', 'e', 0, 20, 6, 5, 'accepted', null, null, 0, 1), (6, 'anyone', null, 0, 7, 5, null, 'refused', 'blocked', null, 2, 1),
-    (7, 'anyone', 'g', 1, 19, null, null, 'posted', null, null, 0, 1);
-"""
+            with unittest.mock.patch.object(FleetStream, "go", hear):
+                await it.until(lambda: it.desk.is_ready and it.desk.journal.find(3).state == "accepted")
+            self.assertEqual((heard, (await it.post(1, 18, "a"))[0]), ([(3, "posted")], 200))

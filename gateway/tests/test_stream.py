@@ -51,7 +51,7 @@ async def rest(fleet):
     async def read():
         return [event async for event in fleet]
 
-    return await asyncio.wait_for(read(), 30)
+    return await asyncio.wait_for(read(), 120)
 
 
 class Stream(Case):
@@ -174,7 +174,7 @@ class Stream(Case):
         process.kill()
         process.wait()
         process.stdout.close()
-        for _ in range(3000):
+        for _ in range(12_000):
             if read.exists():
                 break
             time.sleep(0.01)
