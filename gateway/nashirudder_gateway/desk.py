@@ -124,8 +124,9 @@ class Desk(Ledger):
                 except (FleetError, Wrong, OSError) as error:
                     if isinstance(error, (Refused, Missing)) or not was_here and not _may_be_over(error):
                         raise
-                    log.warning("not ready: %s", error)
-                    self._stop(str(error))
+                    why = str(error) or "the fleet does not answer"
+                    log.warning("not ready: %s", why)
+                    self._stop(why)
                 await self._end_fleet(STUCK)
                 if not self.is_closing:
                     await asyncio.sleep(0.5)

@@ -6,8 +6,7 @@ from typing import Any, Dict, List, NamedTuple, Optional, Set, Tuple
 
 from .errand import REFUSED, Errand
 
-_FORM = 1
-_TABLES = f"""
+_TABLES = """
 pragma journal_mode = wal;
 pragma synchronous = full;
 create table if not exists errands (
@@ -18,7 +17,6 @@ create index if not exists by_owner on errands (owner, id);
 create index if not exists open_ones on errands (id) where state in ('posted', 'accepted');
 create table if not exists facts (name text primary key, value integer not null);
 create table if not exists shut (robot integer primary key);
-pragma user_version = {_FORM};
 """
 # A file from before the fleet had a journal: `kept` is 0 where no chapter has the errand's verdict, and 1 where one has that and not its end. What was
 # told beyond that may have been lost: the fleet tells it again if it was not.
@@ -26,7 +24,7 @@ _TAKE_OVER = """
 begin immediate;
 update errands set state = 'posted', accepted = null, tick = null where kept = 0 and state != 'withdrawn';
 update errands set state = 'accepted', tick = null where kept = 1;
-drop index unsettled;
+drop index if exists unsettled;
 alter table errands drop column kept;
 delete from facts;
 commit;

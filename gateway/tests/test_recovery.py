@@ -70,6 +70,7 @@ class Recovery(Case):
                 await it.post(0, 18, "a")
                 hung = it.desk.fleet.pid
                 os.kill(hung, signal.SIGSTOP)
+                await it.until(lambda: it.desk.trouble == "the fleet does not answer")
                 await it.until(lambda: it.desk.is_ready and it.desk.fleet.pid != hung)
                 await it.until(lambda: it.desk.journal.find(1).state == "arrived")
         self.assertEqual(history(self.folder / "data"), ([(0, 18)], [(0, 18)]))
