@@ -87,7 +87,7 @@ class Broker:
 
     def _came(self, client: mqtt.Client, _data: Any, _flags: Any, code: int) -> None:
         if code == 0:
-            client.subscribe([(f"{self.site}/v2/+/+/state", 0), (f"{self.site}/v2/+/+/connection", 1)])
+            client.subscribe([(f"{self.site}/v2/+/+/state", 0), (f"{self.site}/v2/+/+/connection", 1), (f"{self.site}/v2/+/+/factsheet", 1)])
         self._call(self._stands, code == 0, mqtt.connack_string(code))
 
     def _went(self, _client: mqtt.Client, _data: Any, code: int) -> None:

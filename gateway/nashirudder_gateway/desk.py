@@ -7,17 +7,17 @@ import functools
 import logging
 import sqlite3
 import time
-from typing import Any, Callable, Deque, List, Optional
+from typing import Any, Callable, Deque, List, Optional, Union
 
-from nashirudder.errors import FleetError, Missing, Refused
+from nashirudder.errors import Ended, FleetError, Missing, Refused
 from nashirudder.events import Arrived, Event, Judged, Moved, NotPosted, Over, Posted
 from nashirudder.stream import FleetStream
 
-from . import chapters, recovery, turns
+from . import recovery, turns
 from .errand import Errand
 from .journal import Batch
 from .ledger import Ledger, Withdrawal
-from .site import Site
+from .site import BadSite, Site
 from .vehicles import Vehicles
 
 log = logging.getLogger("nashirudder_gateway")
@@ -26,17 +26,22 @@ log = logging.getLogger("nashirudder_gateway")
 AGAIN = ("queue-full", "lane-full")
 # How many errands may be open, and how many posts be without a verdict: the fleet's mailbox then always has room
 MOST_OPEN, MOST_UNANSWERED = 60_000, 5_000
-# Seconds between looks at the chapters, and after which something is stuck
-FOLLOW_EVERY, STUCK = 1.0, 10.0
+# Seconds between looks at the fleet, and after which something is stuck
+LOOK_EVERY, STUCK, RECOVERY = 1.0, 10.0, 120.0
 HOUR, DAY = 3600.0, 86_400.0
 
 
 class Wrong(Exception):
-    """The fleet does not agree with the journal: it has to be started again, and compared."""
+    """The fleet does not do what was expected: it has to be started again, and asked what it has."""
+
+
+def _may_be_over(error: Exception) -> bool:
+    """Whether the next start may go well: the fleet was killed, or the last one still ends."""
+    return isinstance(error, Ended) and (error.status or 0) < 0 or "is in use by another fleet" in str(error)
 
 
 class Desk(Ledger):
-    """A ledger with its fleet. `run` keeps the fleet until `close`; a fleet that ends is started again."""
+    """A ledger with its fleet. `run` keeps the fleet until `close`; a fleet that ends is started again. Then `end` is to be called."""
 
     def __init__(self, site: Site, tell: Callable[..., None], keep_days: float = 7.0, vehicles: Optional[Vehicles] = None) -> None:
         super().__init__(site, tell)
@@ -75,18 +80,30 @@ class Desk(Ledger):
         self._wake.set()
         return errand
 
-    def take_back(self, errand: Errand) -> "asyncio.Future[Optional[str]]":
-        """Posts the withdrawal of an accepted errand. A future of its verdict; None if the fleet ends before."""
+    async def withdraw(self, errand: Errand, seconds: float) -> Optional[str]:
+        """Posts the withdrawal of an accepted errand. Its verdict, or None if it has none in time, or the fleet ends before."""
         answer: "asyncio.Future[Optional[str]]" = asyncio.get_running_loop().create_future()
         self.outbox.append(Withdrawal(errand, answer))
         self._wake.set()
-        return answer
-
-    async def withdraw(self, errand: Errand, seconds: float) -> Optional[str]:
-        """The verdict of its withdrawal, or None if it has none in time."""
-        answer = self.take_back(errand)
         await asyncio.wait((answer,), timeout=seconds)
         return answer.result() if answer.done() else None
+
+    async def shut(self, robot: int) -> List[str]:
+        """Shuts a robot, for good: that it is to be is on the disk before the fleet hears of it. Returns the fleet's answer."""
+        self._need_fleet()
+        await self.on_disk(self.journal.write_shut, robot)
+        self.journal.shut.add(robot)
+        self.robots.shut.add(robot)
+        return await self.ask(f"shut {robot}")
+
+    async def ask(self, line: str) -> List[str]:
+        """The fleet's answer of one line. Raises FleetError if it is not there."""
+        return (await self._need_fleet().ask(line))[0]
+
+    def _need_fleet(self) -> FleetStream:
+        if self.fleet is None or not self.is_ready:
+            raise FleetError(self.trouble)
+        return self.fleet
 
     def wake(self) -> None:
         """Something is to be posted, or written down."""
@@ -97,37 +114,46 @@ class Desk(Ledger):
     async def run(self) -> None:
         """Keeps a fleet until `close` is called. Raises what no later start can mend."""
         was_here = False
-        while not self.is_closing:
-            try:
-                self.fleet = await self.site.start()
-                was_here = True
+        try:
+            while not self.is_closing:
+                try:
+                    self.fleet = await self.site.start()
+                    was_here = True
+                    if not self.is_closing:
+                        await self._serve(self.fleet)
+                except (FleetError, Wrong, OSError) as error:
+                    if isinstance(error, (Refused, Missing)) or not was_here and not _may_be_over(error):
+                        raise
+                    why = str(error) or "the fleet does not answer"
+                    log.warning("not ready: %s", why)
+                    self._stop(why)
+                await self._end_fleet(STUCK)
                 if not self.is_closing:
-                    await self._serve(self.fleet)
-            except (Refused, Missing):
-                raise
-            except (FleetError, Wrong, chapters.Gap, OSError) as error:
-                in_use = "is in use by another fleet" in str(error)
-                if not was_here and not in_use:
-                    raise
-                log.warning("not ready: %s", error)
-                self._stop(str(error))
-            if self.fleet is not None:
-                await self.fleet.close(STUCK)
-            if not self.is_closing:
-                await asyncio.sleep(0.5)
-        await self._write_down()
-        self._disk.shutdown()
+                    await asyncio.sleep(0.5)
+        finally:
+            await self._end_fleet(STUCK)
+            # where that fails the next fleet tells it again
+            while (batch := self.journal.batch()) is not None and await self._is_written(batch):
+                self.journal.settle(batch)
+            self._disk.shutdown()
+
+    def end(self) -> None:
+        """Closes the files, once `run` has ended and nobody asks any more."""
         if self.vehicles is not None:
             self.vehicles.log.close()
         self.journal.close()
         self.lock.close()
 
+    async def _end_fleet(self, seconds: float) -> None:
+        if self.fleet is not None:
+            await self.fleet.close(seconds)
+
     async def _serve(self, fleet: FleetStream) -> None:
         """Recovers, and then posts and hears until the fleet ends or something is wrong."""
-        await recovery.recover(self, fleet)
+        await asyncio.wait_for(recovery.recover(self, fleet), RECOVERY)
         self.is_ready, self.trouble, self.latest_turn = True, "", time.monotonic()
         log.info("ready at tick %d", self.tick)
-        works, vehicles = [self._hear(fleet), self._post(fleet), self._follow(fleet)], self.vehicles
+        works, vehicles = [self._hear(fleet), self._post(fleet), self._look(fleet)], self.vehicles
         if vehicles is not None:
             vehicles.begin(self.tick, list(self.robots.cells))
             vehicles.on_move = functools.partial(turns.show, self, vehicles)
@@ -138,8 +164,10 @@ class Desk(Ledger):
             for task in done:
                 task.result()
         finally:
-            for task in tasks:
-                task.cancel()
+            while not all(it.done() for it in tasks):   # asyncio.wait_for of Python 3.11 may swallow a cancellation
+                for task in tasks:
+                    task.cancel()
+                await asyncio.wait(tasks, timeout=0.1)
             await asyncio.gather(*tasks, return_exceptions=True)
             self._stop("the fleet ended")
 
@@ -157,13 +185,13 @@ class Desk(Ledger):
         self.is_closing = True
         if self.vehicles is not None:
             await turns.settle(self.vehicles)
-        if self.fleet is not None:
-            await self.fleet.close(60)
+        await self._end_fleet(60)
 
     # ---- the three tasks
 
     async def _post(self, fleet: FleetStream) -> None:
         """Errands go to the disk, and then to the fleet, in the order of their numbers."""
+        await self._write_down()                # what an earlier fleet's end kept from being written
         while True:
             await self._wake.wait()
             self._wake.clear()
@@ -212,25 +240,20 @@ class Desk(Ledger):
             self.trouble, self.is_ready = f"the journal cannot be written: {error}", False
             log.error("%s", self.trouble)
             return False
-        if self.trouble.startswith("the journal") and not self.is_closing:
-            self.trouble, self.is_ready = "", True
+        if self.trouble.startswith("the journal"):
+            self.trouble, self.is_ready = "", not self.is_closing
         return True
 
-    async def _follow(self, fleet: FleetStream) -> None:
-        """Notes which verdicts and arrivals are in chapters on the disk, and looks whether the fleet answers."""
-        loop = asyncio.get_running_loop()
+    async def _look(self, fleet: FleetStream) -> None:
+        """Looks whether the fleet answers, and lets what was heard be written down."""
         while True:
-            await asyncio.sleep(FOLLOW_EVERY)
+            await asyncio.sleep(LOOK_EVERY)
             self.robots.eldest = (await asyncio.wait_for(fleet.look(), STUCK)).eldest
-            kept = await loop.run_in_executor(None, chapters.read, self.site.chapters, self.journal.next_chapter, True)
-            if kept.next_chapter != self.journal.next_chapter:
-                self.take_in(kept)
-                if self.vehicles is not None:
-                    self.vehicles.log.remove_before(kept.tick, self.vehicles.reached)
+            if self.vehicles is not None:
+                self.vehicles.log.remove_before(self.vehicles.reached)
             if time.time() > self._cleaned + HOUR:
                 self._cleaned = time.time()
-                before = self._cleaned - self.keep_days * DAY
-                await self.on_disk(self.journal.remove_before, before)
+                await self.on_disk(self.journal.remove_before, self._cleaned - self.keep_days * DAY)
             self._wake.set()
 
     async def _hear(self, fleet: FleetStream) -> None:
@@ -242,14 +265,8 @@ class Desk(Ledger):
             self.tick, self.latest_turn = event.tick, time.monotonic()
             self.robots.cells = event.cells
             self.tell("tick", event.tick, event.cells)
-        elif isinstance(event, Judged):
-            self.judged(event)
-        elif isinstance(event, Arrived):
-            errand = event.note if event.note is not None else self.by_accepted.get(event.errand)
-            if errand is not None:
-                self.arrived(errand, event.tick)
-                if self.vehicles is not None:
-                    self.to_stand.append(errand)
+        elif isinstance(event, (Judged, Arrived)):
+            self._notice(event)
         elif isinstance(event, Posted):
             if isinstance(event.note, Errand) and event.note.number != event.number:
                 raise Wrong("an order has another number than was written down")
@@ -257,3 +274,18 @@ class Desk(Ledger):
             raise Wrong(f"an order was not posted: {event.name}")
         elif isinstance(event, Over) and not self.is_closing:
             raise Wrong(f"the fleet ended with status {event.status}: {event.complaint}")
+
+    def _notice(self, event: Union[Judged, Arrived]) -> None:
+        """Takes in a notice, if it is not one that was told again."""
+        heard = self.journal.heard or 0
+        if event.seq <= heard:
+            return
+        if event.seq > heard + 1:
+            raise Wrong(f"notice {event.seq} came after {heard}")
+        self.journal.heard = event.seq
+        if isinstance(event, Judged):
+            self.judged(event)
+            return
+        errand = self.arrived(event)
+        if errand is not None and self.vehicles is not None:
+            self.to_stand.append(errand)

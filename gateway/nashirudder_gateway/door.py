@@ -1,8 +1,9 @@
 """The door: answers the routes."""
 
 import pathlib
+import sqlite3
 import time
-from typing import Optional, Tuple
+from typing import Awaitable, List, Optional, Tuple
 
 from aiohttp import web
 
@@ -130,27 +131,25 @@ class Door:
             raise Refusal(404, "no-vehicles")
         return as_json({"is_set": vehicles.is_set, "vehicles": vehicles.views()})
 
-    async def _ask(self, line: str) -> list:
-        if self.desk.fleet is None or not self.desk.is_ready:
-            raise Refusal(503, "not-ready", wait=1.0)
+    async def _done(self, asked: Awaitable[List[str]]) -> web.Response:
+        """The fleet's answer to an operator."""
         try:
-            words = (await self.desk.fleet.ask(line))[0]
+            words = await asked
         except FleetError:
             raise Refusal(503, "not-ready", wait=1.0) from None
+        except sqlite3.Error:
+            raise Refusal(503, "behind", wait=1.0) from None
         if words[0].endswith("-refused"):
             raise Refusal(409, {"already": "already-shut"}.get(words[-1], words[-1]))
-        return words
+        return as_json({"done": " ".join(words)})
 
     async def shut_robot(self, request: web.Request) -> web.Response:
         self.guard.operator(request)
-        robot = self._robot(request)
-        words = await self._ask(f"shut {robot}")
-        self.desk.robots.shut.add(robot)
-        return as_json({"done": " ".join(words)})
+        return await self._done(self.desk.shut(self._robot(request)))
 
     async def end_chapter(self, request: web.Request) -> web.Response:
         self.guard.operator(request)
-        return as_json({"done": " ".join(await self._ask("chapter"))})
+        return await self._done(self.desk.ask("chapter"))
 
     async def get_site(self, request: web.Request) -> web.Response:
         self.guard.client(request)
@@ -181,6 +180,7 @@ class Door:
                   f"gateway_sockets_dropped_total {self.seats.dropped}"]
         if desk.vehicles is not None:
             lines += [f"gateway_vehicle_moves_total {desk.vehicles.moves}", f"gateway_vehicle_messages_bad_total {desk.vehicles.bad_messages}",
+                      f"gateway_vehicle_factsheets_bad {sum(it.factsheet_fault is not None for it in desk.vehicles.all)}",
                       f"gateway_vehicles_in_trouble {sum(it.trouble is not None for it in desk.vehicles.all)}"]
         return web.Response(text=(figures.read_text() if figures.exists() else "") + "\n".join(lines) + "\n")
 

@@ -4,11 +4,7 @@ from dataclasses import dataclass
 from typing import Any, Dict, Optional, Tuple
 
 POSTED, ACCEPTED, ARRIVED, WITHDRAWN, REFUSED, LOST = "posted", "accepted", "arrived", "withdrawn", "refused", "lost"
-STATES = (POSTED, ACCEPTED, ARRIVED, WITHDRAWN, REFUSED, LOST)
 OPEN = (POSTED, ACCEPTED)
-
-# Of the errand's verdict and end, what a chapter on the disk has
-KEPT_NOTHING, KEPT_VERDICT, KEPT_END = 0, 1, 2
 
 
 @dataclass(eq=False)
@@ -26,7 +22,6 @@ class Errand:
     state: str = POSTED
     reason: Optional[str] = None
     tick: Optional[int] = None
-    kept: int = KEPT_NOTHING
     # seconds since 1970, of the last change
     changed: float = 0.0
     # no columns: whether the disk has it, and the WebSocket that posted it
@@ -41,19 +36,14 @@ class Errand:
 
     @property
     def is_open(self) -> bool:
+        """Whether anything can change it any more."""
         return self.state in OPEN
-
-    @property
-    def is_settled(self) -> bool:
-        """Whether nothing can change it any more, whatever dies."""
-        return self.kept == KEPT_END
 
     def row(self) -> Tuple[Any, ...]:
         return (self.id, self.owner, self.key, self.robot, self.cell, self.number, self.accepted, self.state, self.reason,
-                self.tick, self.kept, self.changed)
+                self.tick, self.changed)
 
     def view(self) -> Dict[str, Any]:
         """What its client is shown."""
         return {"id": self.id, "robot": self.robot, "cell": self.cell, "state": self.state, "reason": self.reason,
-                "tick": self.tick, "key": self.key,
-                "kept": self.kept >= (KEPT_VERDICT if self.state == ACCEPTED else KEPT_END)}
+                "tick": self.tick, "key": self.key, "kept": self.state != POSTED}

@@ -1,14 +1,12 @@
-"""The ledger: what became of each errand, as the fleet and the chapters tell it."""
+"""The ledger: what became of each errand, as the fleet tells it."""
 
 import asyncio
 import collections
-import functools
 from typing import Any, Callable, Dict, Iterable, Optional
 
-from nashirudder.events import Judged
+from nashirudder.events import Arrived, Judged
 
-from . import chapters
-from .errand import ACCEPTED, ARRIVED, KEPT_END, KEPT_VERDICT, POSTED, REFUSED, WITHDRAWN, Errand
+from .errand import ACCEPTED, ARRIVED, POSTED, REFUSED, WITHDRAWN, Errand
 from .journal import Journal
 from .robots import Robots
 from .site import Site
@@ -32,7 +30,7 @@ class Ledger:
         self.robots = Robots(len(site.robots))
         self.counts: "collections.Counter[str]" = collections.Counter()
         self.open_of: "collections.Counter[str]" = collections.Counter()
-        # by the number of the order whose verdict is not kept, and of the accepted errand whose end is not kept
+        # by the number of the order that has no verdict, and of the accepted errand that is open
         self.by_number: Dict[int, Errand] = {}
         self.by_accepted: Dict[int, Errand] = {}
         self._waiting: "Dict[int, asyncio.Future[Optional[str]]]" = {}
@@ -53,43 +51,31 @@ class Ledger:
                 answer.set_result(None)
         self._waiting.clear()
 
-    # ---- what became of an errand. Each of these may be told twice: by the fleet, and by a chapter.
+    # ---- what became of an errand
 
     def judged(self, event: Judged) -> None:
         self.counts[f'gateway_verdicts_total{{verdict="{event.verdict}"}}'] += 1
+        errand = self.by_number.pop(event.number, None)
         if isinstance(event.note, Withdrawal):
-            self._withdrawal_judged(event.note, event.verdict)
-        elif event.errand is not None:
-            self._accepted(event.note, event.errand)
-        else:
-            self._refused(event.note, event.verdict)
-
-    def _withdrawal_judged(self, order: Withdrawal, verdict: str) -> None:
-        errand = order.errand
-        if verdict == WITHDRAWN:
-            self._withdrawn(errand)
-        elif errand.state == WITHDRAWN:      # it was told, and lost: now it is too late
-            errand.state = ACCEPTED
-            self.open_of[errand.owner] += 1
-            self.journal.note(errand)
-            self.tell("verdict", errand)
-        if not order.answer.done():
-            order.answer.set_result(verdict)
-
-    def _accepted(self, errand: Errand, accepted: int) -> None:
-        if errand.state == POSTED:
-            errand.state, errand.accepted = ACCEPTED, accepted
-            self.by_accepted[accepted] = errand
+            if event.verdict == WITHDRAWN:
+                self.withdrawn(event.note.errand)
+            if not event.note.answer.done():
+                event.note.answer.set_result(event.verdict)
+        elif errand is not None and event.errand is not None:
+            errand.state, errand.accepted = ACCEPTED, event.errand
+            self.by_accepted[event.errand] = errand
             self.robots.add(errand, self.tick)
             self._has_verdict(errand)
+        elif errand is not None:
+            self._refused(errand, event.verdict)
 
     def _refused(self, errand: Errand, verdict: str) -> None:
-        if errand.state == POSTED:
-            # a refusal stands whatever dies: the errand is never posted again, and its key is free
-            errand.reason, errand.kept = verdict, KEPT_END
-            self._close_errand(errand, REFUSED)
-            self._has_verdict(errand)
-            self.journal.free_key(errand)
+        if verdict == "robot-shut":
+            self.robots.shut.add(errand.robot)
+        errand.reason = verdict
+        self._close_errand(errand, REFUSED)
+        self._has_verdict(errand)
+        self.journal.free_key(errand)
 
     def _has_verdict(self, errand: Errand) -> None:
         self.journal.note(errand)
@@ -98,51 +84,24 @@ class Ledger:
             answer.set_result(None)
         self.tell("verdict", errand)
 
-    def arrived(self, errand: Errand, tick: int) -> None:
-        if errand.is_open:
+    def arrived(self, event: Arrived) -> Optional[Errand]:
+        """The errand that arrived, if it is known."""
+        errand = self.by_accepted.pop(event.errand, None)
+        if errand is not None:
             self.counts["gateway_arrivals_total"] += 1
-            errand.tick = tick
+            errand.tick = event.tick
             self._close_errand(errand, ARRIVED)
             self.tell("arrival", errand)
+        return errand
 
-    def _withdrawn(self, errand: Errand) -> None:
-        if errand.is_open:
-            self._close_errand(errand, WITHDRAWN)
-            self.tell("verdict", errand)
+    def withdrawn(self, errand: Errand, state: str = WITHDRAWN) -> None:
+        """It will not arrive."""
+        self.by_accepted.pop(errand.accepted or 0, None)
+        self._close_errand(errand, state)
+        self.tell("verdict", errand)
 
     def _close_errand(self, errand: Errand, state: str) -> None:
         self.open_of[errand.owner] -= 1
         errand.state = state
         self.robots.remove(errand, self.tick)
         self.journal.note(errand)
-
-    # ---- what chapters on the disk have
-
-    def take_in(self, kept: chapters.Kept) -> None:
-        """Marks what is kept, and takes in what was not heard yet."""
-        for number, (words, verdict) in kept.verdicts.items():
-            if words[0] == "withdraw":
-                if verdict[0] == WITHDRAWN:
-                    self._end_is_kept(words[1], self._withdrawn)
-                continue
-            errand = self.by_number.pop(number, None)
-            if errand is None or words != ("go", errand.robot, errand.cell):
-                continue
-            if verdict[0] == "accepted":
-                self._accepted(errand, verdict[1])
-                errand.kept, errand.accepted = KEPT_VERDICT, verdict[1]
-                self.by_accepted[verdict[1]] = errand
-                self.journal.note(errand)
-            else:
-                self._refused(errand, chapters.name_of(verdict))
-        for accepted, tick in kept.arrivals.items():
-            self._end_is_kept(accepted, functools.partial(self.arrived, tick=tick))
-        self.robots.shut |= kept.shut
-        self.journal.next_chapter = kept.next_chapter
-
-    def _end_is_kept(self, accepted: int, end: Callable[[Errand], None]) -> None:
-        errand = self.by_accepted.pop(accepted, None)
-        if errand is not None:
-            end(errand)
-            errand.kept = KEPT_END
-            self.journal.note(errand)

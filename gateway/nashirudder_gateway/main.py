@@ -62,7 +62,8 @@ def words_of(given: Optional[List[str]] = None) -> argparse.Namespace:
                        help="has the chapters and the journal (gateway-data); a fleet that is there goes on")
     words.add_argument("--site", default="site", help="a name for the site")
     words.add_argument("--period", type=milliseconds, default=200.0, help="the time between two turns (200ms)")
-    words.add_argument("--keep-every", type=milliseconds, default=1000.0, help="a chapter is written so often (1s)")
+    words.add_argument("--keep-every", type=milliseconds, default=60_000.0, help="a chapter ends so often (60s)")
+    words.add_argument("--planner", choices=("plain", "turns"), default="plain", help="turns: errands to the ends of blind aisles arrive (plain)")
     words.add_argument("--bin", help="the program fleet, or its folder")
     words.add_argument("--host", default="127.0.0.1", help="the address to listen at")
     words.add_argument("--port", type=int, default=8080, help="0 takes a free one")
@@ -99,7 +100,7 @@ def names_in(path: Optional[pathlib.Path], count: int) -> List[Name]:
 async def serve(asked: argparse.Namespace, who: clients.Clients) -> None:
     """Serves until SIGTERM or SIGINT."""
     robots = asked.robots if asked.robots is not None else spread(asked.map, asked.count)
-    site = Site(asked.site, asked.map, robots, asked.folder, asked.period, asked.keep_every, asked.bin)
+    site = Site(asked.site, asked.map, robots, asked.folder, asked.period, asked.keep_every, asked.bin, asked.planner)
     seats = Seats(Guard(who, [*asked.name, *([] if is_loopback(asked.host) else [asked.host])]))
     broker, vehicles = None, None
     if asked.mqtt is not None:
@@ -130,9 +131,12 @@ async def serve(asked: argparse.Namespace, who: clients.Clients) -> None:
         listening.close()
         await desk.close()
         await runner.cleanup()
-        await running
         if broker is not None:
             await loop.run_in_executor(None, broker.close)
+        try:
+            await running
+        finally:
+            desk.end()
 
 
 def main(given: Optional[List[str]] = None) -> int:

@@ -31,7 +31,7 @@ class SocketErrand(NewErrand):
 
 
 class ErrandView(BaseModel):
-    """An errand. `kept` is true once what `state` says is in a chapter on the disk, and so stands whatever dies."""
+    """An errand. `kept` is true once it has a verdict: then what `state` says is on the fleet's disk, and stands whatever dies."""
 
     id: int
     robot: int
@@ -52,7 +52,8 @@ class ErrandList(BaseModel):
 
 class VehicleView(BaseModel):
     """A robot's vehicle. `cell` is the one that it reached last, `bound_for` the one to which it is released, and `planned` how many moves come
-    after that. `trouble` keeps it from being sent on."""
+    after that. `trouble` keeps it from being sent on. `speed`, the greatest in metres a second, and `length` and `width` in metres are those of its factsheet; null without one.
+    `factsheet_fault` is what is wrong with the last one."""
 
     robot: int
     vehicle: str
@@ -60,6 +61,10 @@ class VehicleView(BaseModel):
     bound_for: Optional[int]
     planned: int
     trouble: Optional[str]
+    speed: Optional[float]
+    length: Optional[float]
+    width: Optional[float]
+    factsheet_fault: Optional[str]
 
 
 class VehicleList(BaseModel):
@@ -96,6 +101,7 @@ class SiteView(BaseModel):
     rows: List[str]
     robots: int
     period_ms: float
+    planner: str = Field(..., regex="^(plain|turns)$")
     queue: int
     tick: int
 

@@ -1,9 +1,10 @@
 "use strict";
 const $ = id => document.getElementById(id);
-const MOST_LINES = 60, MOST_ROBOTS = 12, TICK_MS = 50, LEAST_LABEL = 11, TOUCH = 16;
+const MOST_LINES = 60, MOST_ROBOTS = 12, TICK_MS = 50, LOOK_MS = 500, SOON_MS = 100, LEAST_LABEL = 11, TOUCH = 16;
 
 let token = new URLSearchParams(location.hash.slice(1)).get("token") || sessionStorage.getItem("token") || "";
 let site = null, robots = [], chosen = null, arrivals = 0, socket = null, lost = 0;
+let timer = 0, isSoon = false;
 let from = [], cells = [], movedAt = 0, every = 100, size = 8, walls = null, colours = {};
 
 // ---- what the page says
@@ -49,9 +50,12 @@ function measure() {
   walls.width = canvas.width;
   walls.height = canvas.height;
   const pen = walls.getContext("2d");
-  pen.scale(canvas.width / site.width, canvas.height / site.height);
   pen.fillStyle = colours.wall;
-  site.rows.forEach((row, y) => [...row].forEach((letter, x) => { if (!".GS".includes(letter)) pen.fillRect(x, y, 1.01, 1.01); }));
+  // whole pixels, so that no seams show
+  const left = x => Math.round(x * canvas.width / site.width), top = y => Math.round(y * canvas.height / site.height);
+  site.rows.forEach((row, y) => [...row].forEach((letter, x) => {
+    if (!".GS".includes(letter)) pen.fillRect(left(x), top(y), left(x + 1) - left(x), top(y + 1) - top(y));
+  }));
 }
 
 /** Where a robot is drawn now: on its way to its cell from where it was drawn when the last tick came. */
@@ -136,9 +140,11 @@ function hear(told) {
     $("tick").textContent = document.body.dataset.tick = told.tick;
   } else if (told.kind === "arrival") {
     $("arrivals").textContent = ++arrivals;
+    soon();
     log(`Robot ${told.errand.robot} arrived at ${place(told.errand.cell)}, tick ${told.errand.tick}`);
   } else if (told.kind === "verdict") {
     const {robot, cell, reason} = told.errand;
+    soon();
     log(`Robot ${robot} to ${place(cell)}: ${reason || told.errand.state}`);
     if (reason) hint(`Robot ${robot} cannot be sent there: ${reason}.`);
   } else if (told.kind === "refusal") hint(`Not taken: ${told.detail}.`);
@@ -154,12 +160,21 @@ function showRobots(told) {
   $("robots").replaceChildren(...busy.slice(0, MOST_ROBOTS).map(it => {
     const row = document.createElement("tr");
     row.className = it.eldest ? "eldest" : "";
-    for (const text of [it.robot, it.errands, it.wait, place(it.cell), place(it.goal)]) row.insertCell().textContent = text;
+    for (const text of [it.robot, it.errands, it.wait, place(cells[it.robot] ?? it.cell), place(it.goal)]) row.insertCell().textContent = text;
     return row;
   }));
 }
 
+/** Looks soon, since an errand began or ended. */
+function soon() {
+  if (isSoon) return;
+  isSoon = true;
+  clearTimeout(timer);
+  timer = setTimeout(look, SOON_MS);
+}
+
 async function look() {
+  isSoon = false;
   try {
     if (document.body.dataset.state !== "token" && socket && socket.readyState === WebSocket.OPEN) {
       const ready = await ask("ready");
@@ -169,7 +184,7 @@ async function look() {
       if (site) showRobots(await ask("robots"));
     }
   } catch { /* the socket tells when the connection is lost */ }
-  setTimeout(look, 500);
+  if (!isSoon) timer = setTimeout(look, LOOK_MS);
 }
 
 async function connect() {

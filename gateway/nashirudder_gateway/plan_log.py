@@ -1,10 +1,13 @@
 """The plan that vehicles carry out, on the disk: each placement with the number of the node at which each vehicle then is."""
 
 import json
+import operator
 import secrets
 import sqlite3
 import threading
 from typing import List, NamedTuple, Optional, Tuple
+
+from .site import BadSite
 
 _TABLES = """
 pragma journal_mode = wal;
@@ -33,8 +36,8 @@ def _row(step: int, it: Placement) -> Tuple[int, int, str, str]:
 
 
 class PlanLog:
-    """The steps that may not be carried out yet, or are not in a chapter on the disk yet. `add` writes one down before it is told. The orders
-    of all vehicles have one name, `order_id`, as long as the log goes on. Any thread may call."""
+    """The steps that may not be carried out yet. `add` writes one down before it is told. The orders of all vehicles have one name, `order_id`, as long as the
+    log goes on. Any thread may call."""
 
     def __init__(self, path: str) -> None:
         self._lock = threading.RLock()
@@ -52,16 +55,16 @@ class PlanLog:
         return self.order_id
 
     def begin(self, tick: int, cells: List[int]) -> Placement:
-        """The last placement of this tick, at which the fleet begins or goes on with these cells. A chapter may have one step more than the
-        log. Where the log is of another fleet it begins anew, with an order of another name."""
+        """The last placement, at which the fleet begins or goes on with these cells. The fleet may have made one turn more than the log, and never fewer.
+        Where the log is of another fleet it begins anew, with an order of another name. Raises BadSite if the fleet is behind it."""
         with self._lock:
-            found = [it for it in self.placements if it.tick == tick and it.cells == cells]
-            if found:
-                return found[-1]
             last = self.placements[-1] if self.placements else None
+            if last is not None and last.tick > tick:
+                raise BadSite(f"the vehicles' plan goes to tick {last.tick}, and the fleet to {tick}: its chapters are older, or were written by an earlier gateway that was "
+                              "killed. Put the vehicles where GET /robots has their robots, and remove plan.db")
             if last is not None and last.tick + 1 == tick:
                 self.add(last.then(tick, cells))
-            else:
+            elif last is None or (last.tick, last.cells) != (tick, cells):
                 self._new_order()
                 self.replace([Placement(tick, cells, [0] * len(cells))])
             return self.placements[-1]
@@ -79,40 +82,29 @@ class PlanLog:
             self._file.executemany("insert into plan values (?, ?, ?, ?)", [_row(step, it) for step, it in enumerate(placements)])
             self._first, self.placements = 0, placements
 
-    def remove_before(self, tick: int, reached: List[int]) -> None:
-        """Removes the placements before the last one whose tick is at most `tick` and whose nodes every vehicle has reached."""
+    def remove_before(self, reached: List[int]) -> None:
+        """Removes the placements before the last one whose nodes every vehicle has reached."""
         with self._lock:
             count = 0
-            while count + 1 < len(self.placements):
-                following = self.placements[count + 1]
-                if following.tick > tick or any(there > at for there, at in zip(following.sequences, reached)):
-                    break
+            while count + 1 < len(self.placements) and all(map(operator.le, self.placements[count + 1].sequences, reached)):
                 count += 1
             if count:
                 del self.placements[:count]
                 self._first += count
                 self._file.execute("delete from plan where step < ?", (self._first,))
 
-    def way_to(self, wanted: Placement, reached: List[int]) -> Optional[List[List[int]]]:
-        """The placements by which vehicles that stand at these nodes come to that one of the log: what was planned after it is undone from
-        its end, and then what is missing before it is done. None if the log does not have these nodes."""
+    def way_from(self, reached: List[int]) -> Optional[List[List[int]]]:
+        """The placements by which vehicles that stand at these nodes come to the last one of the log: what each has not done of the plan. None if the log does
+        not have these nodes."""
         first, last = self.placements[0], self.placements[-1]
         if any(not low <= at <= high for at, low, high in zip(reached, first.sequences, last.sequences)):
             return None
-        target = max(place for place, it in enumerate(self.placements) if it == wanted)
-        cells = [self._cell_at(robot, at) for robot, at in enumerate(reached)]
-        way: List[List[int]] = [cells]
-        for place in range(len(self.placements) - 1, target, -1):
-            before, after = self.placements[place - 1], self.placements[place]
-            cells = [before.cells[robot] if at >= after.sequences[robot] > before.sequences[robot] else cells[robot]
-                     for robot, at in enumerate(reached)]
-            way.append(cells)
-        for place in range(1, target + 1):
-            before, after = self.placements[place - 1], self.placements[place]
-            cells = [after.cells[robot] if at < after.sequences[robot] and after.sequences[robot] > before.sequences[robot] else cells[robot]
-                     for robot, at in enumerate(reached)]
-            way.append(cells)
-        return [it for place, it in enumerate(way) if place == 0 or it != way[place - 1]]
+        way = [[self._cell_at(robot, at) for robot, at in enumerate(reached)]]
+        for it in self.placements[1:]:
+            cells = [to if at < sequence else before for at, sequence, to, before in zip(reached, it.sequences, it.cells, way[-1])]
+            if cells != way[-1]:
+                way.append(cells)
+        return way
 
     def _cell_at(self, robot: int, sequence: int) -> int:
         return next(it.cells[robot] for it in self.placements if it.sequences[robot] == sequence)

@@ -37,7 +37,7 @@ class Robots:
         state = "shut" if robot in self.shut else "busy" if queue else "free"
         return {"robot": robot, "cell": self.cells[robot], "state": state, "errands": len(queue),
                 "goal": next(iter(queue.values())).cell if queue else None,
-                "wait": tick - self._since[robot] if queue else None, "eldest": robot == self.eldest}
+                "wait": tick - self._since[robot] if queue else None, "eldest": bool(queue) and robot == self.eldest}
 
     def views(self, tick: int) -> List[dict]:
         return [self.view(robot, tick) for robot in range(len(self.cells))]

@@ -63,9 +63,21 @@ class Simulated:
             "safetyState": {"eStop": "NONE", "fieldViolation": False}}), qos=0)
 
     def act(self, text: bytes) -> None:
-        """Does what it is asked to do at once: it knows `stateRequest` alone."""
-        if any(it["actionType"] == "stateRequest" for it in json.loads(text)["actions"]):
+        """Does what it is asked to do at once: it knows `stateRequest` and `factsheetRequest`."""
+        asked = {it["actionType"] for it in json.loads(text)["actions"]}
+        if "stateRequest" in asked:
             self.tell()
+        if "factsheetRequest" in asked:
+            self._client.publish(self._topic("factsheet"), json.dumps(self.factsheet()), qos=1, retain=True)
+
+    def factsheet(self) -> Message:
+        """What it is: a cell is a metre."""
+        return {**self._header(), "typeSpecification": {
+                    "seriesName": "simulated", "agvKinematic": "OMNI", "agvClass": "CARRIER", "maxLoadMass": 100.0, "localizationTypes": ["GRID"],
+                    "navigationTypes": ["VIRTUAL_LINE_GUIDED"]},
+                "physicalParameters": {"speedMin": 0.0, "speedMax": self.speed, "accelerationMax": 1.0, "decelerationMax": 1.0, "heightMax": 0.4,
+                                       "width": 0.6, "length": 0.8},
+                "protocolLimits": {}, "protocolFeatures": {}, "agvGeometry": {}, "loadSpecification": {}}
 
     def take(self, text: bytes) -> None:
         """Takes an order, or an update of the one that it has; refuses what does not begin where its base ends."""

@@ -5,9 +5,12 @@ import pathlib
 from dataclasses import dataclass, field
 from typing import IO, Dict, List, Optional
 
+from nashirudder.opening import Planner
 from nashirudder.stream import FleetStream
 
 # What one client of the fleet may have: the gateway is that client, and limits its own clients below it
+# Notices that are kept to be told again: more than open errands, and posts without a verdict, can have while the journal is not written
+RECALL = 131_072
 ROOM = {"lane": 65_536, "mailbox": 65_536, "outlet": 4_096, "queue": 1_024}
 FLOOR = ".GS"
 
@@ -25,8 +28,9 @@ class Site:
     robots: List[int]
     folder: pathlib.Path
     period_ms: float = 100.0
-    keep_every_ms: float = 1000.0
+    keep_every_ms: float = 60_000.0
     built: Optional[str] = None
+    planner: Planner = "plain"
     # whether vehicles carry out the plan: then a turn is made where it is asked for
     has_vehicles: bool = False
     rows: List[str] = field(default_factory=list)
@@ -55,15 +59,15 @@ class Site:
         return held
 
     async def start(self) -> FleetStream:
-        """Starts the fleet, or lets it go on from its last chapter."""
+        """Starts the fleet, or lets it go on from what it told last."""
         return await FleetStream.open(
             self.map, self.robots, period_ms=None if self.has_vehicles else self.period_ms, watch=not self.has_vehicles,
-            traces=self.chapters, resume=True, keep_every_ms=self.keep_every_ms, metrics=self.figures, built=self.built,
-            **self.limits)  # type: ignore[arg-type]
+            traces=self.chapters, resume=True, journal=True, recall=RECALL, keep_every_ms=self.keep_every_ms, metrics=self.figures, built=self.built,
+            planner=self.planner, **self.limits)  # type: ignore[arg-type]
 
     def view(self) -> dict:
         return {"name": self.name, "width": len(self.rows[0]), "height": len(self.rows), "rows": self.rows,
-                "robots": len(self.robots), "period_ms": self.period_ms, "queue": self.limits["queue"]}
+                "robots": len(self.robots), "period_ms": self.period_ms, "planner": self.planner, "queue": self.limits["queue"]}
 
 
 def rows_of(path: pathlib.Path) -> List[str]:

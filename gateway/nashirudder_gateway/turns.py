@@ -32,7 +32,11 @@ async def drive(desk: "Desk", fleet: FleetStream, vehicles: Vehicles) -> None:
         elif now < due:
             await asyncio.sleep(min(due - now, LOOK_EVERY))
         else:
-            await _turn(desk, fleet, vehicles)
+            vehicles.is_planning = True
+            try:
+                await _turn(desk, fleet, vehicles)
+            finally:
+                vehicles.is_planning = False
             due = max(due + desk.site.period_ms / 1000, now)
 
 
@@ -79,9 +83,9 @@ def show(desk: "Desk", vehicles: Vehicles) -> None:
 
 
 async def settle(vehicles: Vehicles) -> None:
-    """Waits until the vehicles have done what was planned, so that they stand where the last chapter has their robots."""
+    """Waits until the vehicles have done what was planned, so that they stand where the fleet has their robots."""
     end = time.monotonic() + SETTLE_SECONDS
-    while vehicles.is_set and not vehicles.is_done and time.monotonic() < end:
+    while vehicles.is_set and (vehicles.is_planning or not vehicles.is_done) and time.monotonic() < end:
         vehicles.look(time.monotonic())
         await vehicles.news(LOOK_EVERY)
     vehicles.stop()

@@ -5,10 +5,12 @@ import datetime
 from dataclasses import dataclass
 from typing import Any, Dict, Iterator, List, NamedTuple, Optional, Tuple
 
-from pydantic import BaseModel, Field, conint, constr
+from pydantic import BaseModel, Field, conint, constr, validator
 
 VERSION = "2.0.0"
 ONLINE, OFFLINE, BROKEN = "ONLINE", "OFFLINE", "CONNECTIONBROKEN"
+# No number of a factsheet is that great
+MOST = 1e6
 Message = Dict[str, Any]
 _Count = conint(strict=True, ge=0, lt=2**32)
 _Word = constr(strict=True, max_length=256)
@@ -85,6 +87,47 @@ class Connection(Header):
     connectionState: str = Field(..., regex=f"^({ONLINE}|{OFFLINE}|{BROKEN})$")
 
 
+class TypeSpecification(BaseModel):
+    """What kind of vehicle it is."""
+
+    seriesName: _Word  # type: ignore[valid-type]
+    agvKinematic: str = Field(..., regex="^(DIFF|OMNI|THREEWHEEL)$")
+    agvClass: str = Field(..., regex="^(FORKLIFT|CONVEYOR|TUGGER|CARRIER)$")
+    maxLoadMass: float = Field(..., ge=0, lt=MOST)
+    localizationTypes: List[_Word]  # type: ignore[valid-type]
+    navigationTypes: List[_Word]  # type: ignore[valid-type]
+
+
+class PhysicalParameters(BaseModel):
+    """How fast and how large it is: metres, and seconds."""
+
+    speedMin: float = Field(..., ge=0, lt=MOST)
+    speedMax: float = Field(..., gt=0, lt=MOST)
+    accelerationMax: float = Field(..., gt=0, lt=MOST)
+    decelerationMax: float = Field(..., gt=0, lt=MOST)
+    heightMax: float = Field(..., gt=0, lt=MOST)
+    width: float = Field(..., gt=0, lt=MOST)
+    length: float = Field(..., gt=0, lt=MOST)
+
+    @validator("speedMax")
+    def is_not_slower(cls, fastest: float, values: Dict[str, Any]) -> float:
+        """The least speed was read before."""
+        if fastest < values.get("speedMin", 0):
+            raise ValueError("it is less than speedMin")
+        return fastest
+
+
+class Factsheet(Header):
+    """What a vehicle is."""
+
+    typeSpecification: TypeSpecification
+    physicalParameters: PhysicalParameters
+    protocolLimits: Dict[str, Any]
+    protocolFeatures: Dict[str, Any]
+    agvGeometry: Dict[str, Any]
+    loadSpecification: Dict[str, Any]
+
+
 class Stop(NamedTuple):
     """A cell on a vehicle's way. Nodes have even numbers, and each edge the odd one before its end."""
 
@@ -138,6 +181,6 @@ def order(head: Message, order_id: str, stops: List[Stop], released: int, map_of
             "edges": list(_edges(stops, released))}
 
 
-def state_request(action_id: str) -> Message:
-    """The instant action by which a vehicle is asked for its state."""
-    return {"actionType": "stateRequest", "actionId": action_id, "blockingType": "NONE", "actionParameters": []}
+def request(kind: str, number: str) -> Message:
+    """The instant action by which a vehicle is asked for its "state" or its "factsheet"."""
+    return {"actionType": f"{kind}Request", "actionId": f"{kind}-{number}", "blockingType": "NONE", "actionParameters": []}

@@ -4,7 +4,7 @@ from collections import deque
 from dataclasses import dataclass, field
 from typing import Deque, Optional
 
-from .vda5050 import ONLINE, Name, State, Stop, cell_of
+from .vda5050 import ONLINE, Message, Name, PhysicalParameters, State, Stop, cell_of
 
 # What keeps a vehicle from being sent on, in the order in which it is said
 UNKNOWN, AWAY, OFFLINE, MANUAL, STOPPED, REJECTED, ELSEWHERE = (
@@ -23,6 +23,9 @@ class Vehicle:
     released: Stop = Stop(0, 0)
     connection: Optional[str] = None
     state: Optional[State] = None
+    # what the last factsheet that was good says, and what is wrong with one that came after that
+    body: Optional[PhysicalParameters] = None
+    factsheet_fault: Optional[str] = None
     ahead: Deque[Stop] = field(default_factory=deque)
     # the number of its last header, when it was sent last, and whether a release waits for it
     header_id: int = 0
@@ -65,3 +68,10 @@ class Vehicle:
         if any(it.errorType in _REJECTIONS for it in self.state.errors):
             return REJECTED
         return ELSEWHERE if self.is_elsewhere else None
+
+    def view(self, is_set: bool) -> Message:
+        """What a client is shown; `is_set` says whether the plan is carried out."""
+        body = self.body
+        return {"robot": self.robot, "vehicle": f"{self.name.manufacturer}/{self.name.serial}", "cell": self.cell,
+                "bound_for": self.released.cell if is_set and self.is_under_way else None, "planned": len(self.ahead), "trouble": self.trouble,
+                "speed": body and body.speedMax, "length": body and body.length, "width": body and body.width, "factsheet_fault": self.factsheet_fault}

@@ -4,28 +4,29 @@ import asyncio
 import logging
 import time
 from collections import deque
-from typing import Any, Callable, Deque, Dict, List, Optional, Tuple, Union
+from typing import Any, Callable, Deque, Dict, List, Optional, Tuple, Type
 
 from nashirudder.errors import Refused
 from nashirudder.execution import Execution, Move
 
 from . import vda5050
 from .plan_log import Placement, PlanLog
-from .vda5050 import Connection, Message, Name, State, Stop
+from .vda5050 import ONLINE, Connection, Factsheet, Header, Message, Name, State, Stop
 from .vehicle import Vehicle
 
 log = logging.getLogger("nashirudder_gateway")
 
 # Seconds after which an order that was not taken is sent again
 AGAIN = 2.0
+KINDS: Dict[str, Type[Header]] = {"state": State, "connection": Connection, "factsheet": Factsheet}
 
 
 class Vehicles:
     """`send(topic, message)` hands a message to the broker. A vehicle is released to the next node of its way when its move may begin, as the
     proved `Execution` says it, and to none beyond.
 
-    First each vehicle says where it stands (`is_set` is false until all have). If the fleet goes on from a chapter, they are elsewhere on the
-    plan's way: what was planned after the chapter is undone. Then `plan` takes a placement after the other, while `has_room`."""
+    First each vehicle says where it stands (`is_set` is false until all have). If the fleet goes on, they are on their ways to where the plan has them, and
+    do what is missing. Then `carry_out` takes a placement after the other, while `has_room`."""
 
     def __init__(self, site: str, shape: Tuple[int, int], names: List[Name], plan: PlanLog, clearance: str = "arrived",
                  ahead: int = 10) -> None:
@@ -42,7 +43,8 @@ class Vehicles:
         self._steps: Deque[List[int]] = deque()
         # what is told once a vehicle has reached a node: (its number, what to tell)
         self._awaited: List[Deque[Tuple[int, Callable[[], None]]]] = [deque() for _ in names]
-        self.moves, self.bad_messages = 0, 0
+        # `is_planning`: a turn is being made, of which they will hear
+        self.moves, self.bad_messages, self.is_planning = 0, 0, False
         self.on_begin: Callable[[], None] = lambda: None
         self.on_move: Callable[[], None] = lambda: None
         self._news = asyncio.Event()
@@ -97,7 +99,7 @@ class Vehicles:
             found = self._where(vehicle, target)
             vehicle.is_elsewhere = found is None
             reached.append(found if found is not None else -1)
-        way = None if -1 in reached else self.log.way_to(target, reached)
+        way = None if -1 in reached else self.log.way_from(reached)
         if way is not None:
             self._open(target.tick, way, reached)
 
@@ -189,10 +191,14 @@ class Vehicles:
         self.send(vehicle.name.topic(self.site, "order"), message)
 
     def ask(self) -> None:
-        """Asks each vehicle for its state: the broker has just been reached."""
+        """Asks each vehicle for its state and its factsheet: the broker has just been reached."""
         for vehicle in self.all:
-            message = {**self._header(vehicle), "actions": [vda5050.state_request(f"{self.order_id}-{vehicle.header_id}")]}
-            self.send(vehicle.name.topic(self.site, "instantActions"), message)
+            self._ask(vehicle)
+
+    def _ask(self, vehicle: Vehicle) -> None:
+        head = self._header(vehicle)
+        actions = [vda5050.request(kind, f"{self.order_id}-{vehicle.header_id}") for kind in ("state", "factsheet")]
+        self.send(vehicle.name.topic(self.site, "instantActions"), {**head, "actions": actions})
 
     # ---- what they say
 
@@ -201,19 +207,26 @@ class Vehicles:
         words = topic.split("/")
         vehicle = self.by_name.get(Name(words[-3], words[-2])) if len(words) == 5 else None
         try:
-            if vehicle is None or words[-1] not in ("state", "connection"):
-                raise ValueError(topic)
-            told: Union[State, Connection] = State.parse_raw(text) if words[-1] == "state" else Connection.parse_raw(text)
+            if vehicle is None or words[-1] not in KINDS:
+                raise ValueError("no vehicle of ours has this topic")
+            told = KINDS[words[-1]].parse_raw(text)
             if (told.manufacturer, told.serialNumber) != (vehicle.name.manufacturer, vehicle.name.serial):
-                raise ValueError(topic)
+                raise ValueError("its header names another vehicle")
         except (ValueError, RecursionError) as error:
             self.bad_messages += 1
-            log.warning("a message at %s is left: %s", topic, str(error).splitlines()[0])
+            why = "; ".join(str(error).splitlines()[:3])
+            if vehicle is not None and words[-1] == "factsheet":
+                vehicle.factsheet_fault = why
+            log.warning("a message at %r is left: %s", topic, why)
             return
         self._news.set()
-        if isinstance(told, Connection):
+        if isinstance(told, Factsheet):
+            vehicle.body, vehicle.factsheet_fault = told.physicalParameters, None
+        elif isinstance(told, Connection):
+            if told.connectionState == ONLINE and vehicle.connection != ONLINE:
+                self._ask(vehicle)
             vehicle.connection = told.connectionState
-        else:
+        elif isinstance(told, State):
             vehicle.state = told
             self._stands(vehicle, told)
         if not self.is_set:
@@ -284,6 +297,4 @@ class Vehicles:
         return "" if self.is_set else "the vehicles are not at rest on their ways yet"
 
     def views(self) -> List[Message]:
-        return [{"robot": it.robot, "vehicle": f"{it.name.manufacturer}/{it.name.serial}", "cell": it.cell,
-                 "bound_for": it.released.cell if self.is_set and it.is_under_way else None,
-                 "planned": len(it.ahead), "trouble": it.trouble} for it in self.all]
+        return [it.view(self.is_set) for it in self.all]

@@ -17,7 +17,7 @@ sys.path[:0] = [str(HERE.parent), str(HERE.parent.parent / "bindings" / "python"
 import aiohttp
 from aiohttp.test_utils import TestServer
 
-from nashirudder_gateway import routes, vehicle_site
+from nashirudder_gateway import door, routes, seats, vehicle_site
 from nashirudder_gateway.clients import Client, Clients
 from nashirudder_gateway.desk import Desk
 from nashirudder_gateway.door import Door
@@ -33,6 +33,8 @@ BIN = os.environ.get("NASHIRUDDER_BIN")
 # what the gateway says of fleets that are killed on purpose, and asyncio of a machine that is busy
 logging.getLogger("nashirudder_gateway").setLevel(logging.CRITICAL)
 logging.getLogger("asyncio").setLevel(logging.CRITICAL)
+# a machine may be as slow as it likes: a test that needs one of these times sets it
+door.VERDICT_SECONDS = seats.TOKEN_SECONDS = door.LATE = 120.0
 
 
 def client(name, token, **limits):
@@ -82,10 +84,11 @@ class Gateway:
         await self.desk.close()
         await self.running
         await self.server.close()
+        self.desk.end()
         if self.broker is not None:
             self.broker.close()
 
-    async def until(self, is_so, seconds=30):
+    async def until(self, is_so, seconds=120):
         """Waits for what has to come."""
         for _ in range(seconds * 100):
             if is_so():
@@ -119,7 +122,7 @@ class Gateway:
         async with self.session.ws_connect(self.server.make_url("/stream" + query), **words) as socket:
             if token is not None:
                 await socket.send_json({"token": token})
-            hello = await socket.receive_json(timeout=10)
+            hello = await socket.receive_json(timeout=120)
             assert hello["kind"] == "hello", hello
             yield socket
 

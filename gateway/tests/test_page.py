@@ -32,7 +32,7 @@ class Page(Case):
     async def value(self, script):
         return (await self.send("Runtime.evaluate", expression=script, returnByValue=True))["result"].get("value")
 
-    async def until(self, script, seconds=30):
+    async def until(self, script, seconds=120):
         for _ in range(seconds * 20):
             if await self.value(script):
                 return

@@ -1,10 +1,11 @@
-"""The plan's log: how vehicles that stand anywhere on their ways come to where a chapter has their robots."""
+"""The plan's log: how vehicles that stand anywhere on their ways come to where the plan has their robots."""
 
 import random
 import unittest
 
 from kit import Case
 from nashirudder_gateway.plan_log import Placement, PlanLog
+from nashirudder_gateway.site import BadSite
 
 
 def is_step(before, after):
@@ -28,22 +29,31 @@ class Log(Case):
         self.assertEqual(again.placements, [Placement(7, [0, 3], [0, 0]), Placement(8, [1, 3], [2, 0]), Placement(9, [2, 3], [4, 0])])
         self.assertEqual(again.order_id, log.order_id)
 
-    def test_what_is_in_a_chapter_and_reached_goes(self):
+    def test_what_is_reached_goes(self):
         log = self.log()
         log.begin(0, [0, 3])
         for tick, cells in enumerate(([1, 3], [2, 4], [8, 4]), 1):
             log.add(log.placements[-1].then(tick, cells))
-        log.remove_before(3, [2, 2])
+        log.remove_before([2, 2])
         self.assertEqual([it.tick for it in log.placements], [1, 2, 3])
-        log.remove_before(1, [6, 2])
+        log.remove_before([4, 0])
         self.assertEqual([it.tick for it in log.placements], [1, 2, 3])
-        log.remove_before(2, [6, 2])
+        log.remove_before([4, 2])
         self.assertEqual([it.tick for it in self.log().placements], [2, 3])
 
-    def test_a_chapter_may_be_one_step_ahead_of_the_log(self):
+    def test_the_fleet_may_be_one_step_ahead_of_the_log(self):
         log = self.log()
         log.begin(0, [0, 3])
         self.assertEqual(log.begin(1, [1, 3]), Placement(1, [1, 3], [2, 0]))
+        self.assertEqual(self.log().placements, [Placement(0, [0, 3], [0, 0]), Placement(1, [1, 3], [2, 0])])
+
+    def test_a_fleet_that_is_behind_the_log_is_refused(self):
+        log = self.log()
+        log.begin(0, [0, 3])
+        log.add(log.placements[-1].then(1, [1, 3]))
+        with self.assertRaises(BadSite) as caught:
+            log.begin(0, [0, 3])
+        self.assertIn("the vehicles' plan goes to tick 1, and the fleet to 0", str(caught.exception))
 
     def test_the_log_of_another_fleet_begins_anew(self):
         log = self.log()
@@ -52,14 +62,15 @@ class Log(Case):
         self.assertEqual(log.begin(5, [6, 3]), Placement(5, [6, 3], [0, 0]))
         self.assertNotEqual(log.order_id, before)
 
-    def test_back_and_on_to_the_chapter(self):
-        # robot 0 is two moves beyond the chapter at tick 1, robot 1 one move before it
+    def test_on_to_the_last_placement(self):
+        # robot 0 has made two of its moves, robot 1 none
         log = self.log()
         log.begin(0, [0, 9])
         for tick, cells in enumerate(([1, 8], [2, 8], [3, 7]), 1):
             log.add(log.placements[-1].then(tick, cells))
-        self.assertEqual(log.way_to(log.placements[1], [6, 0]), [[3, 9], [2, 9], [1, 9], [1, 8]])
-        self.assertIsNone(log.way_to(log.placements[1], [8, 0]))
+        self.assertEqual(log.way_from([4, 0]), [[2, 9], [2, 8], [3, 7]])
+        self.assertEqual(log.way_from([6, 4]), [[3, 7]])
+        self.assertIsNone(log.way_from([8, 0]))
 
     def test_each_way_is_free_of_conflicts(self):
         """Random walks on a ring and a line, executed by the rule of visits in random order, stopped at random."""
@@ -76,11 +87,10 @@ class Log(Case):
             for tick, cells in enumerate(plan[1:], 1):
                 log.add(log.placements[-1].then(tick, cells))
             reached = self.run_for_a_while(log.placements, chance)
-            target = chance.choice(log.placements)
-            way = log.way_to(target, reached)
+            way = log.way_from(reached)
             for before, after in zip(way, way[1:]):
                 self.assertTrue(is_step(before, after), (seed, before, after))
-            self.assertEqual(way[-1], target.cells)
+            self.assertEqual(way[-1], plan[-1])
             log.close()
 
     @staticmethod

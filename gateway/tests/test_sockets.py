@@ -12,7 +12,7 @@ from nashirudder_gateway.clients import Clients
 async def told(it, *kinds):
     """The next message of one of these kinds."""
     while True:
-        message = await it.receive_json(timeout=20)
+        message = await it.receive_json(timeout=120)
         if message["kind"] in kinds:
             return message
 
@@ -45,7 +45,7 @@ class Sockets(Case):
             for sent, status, error in [("{", 422, "not-json"), ('{"robot":-1,"cell":0}', 422, "body"), ('{"robot":0,"cell":1,"key":"a\\n"}', 422, "body"),
                                         ('{"robot":0,"cell":1,"key":7}', 422, "body")]:
                 await socket.send_str(sent)
-                answer = await socket.receive_json(timeout=10)
+                answer = await socket.receive_json(timeout=120)
                 self.assertEqual((answer["kind"], answer["status"], answer["error"]), ("refusal", status, error), sent)
             await socket.send_json({"robot": 0, "cell": WALL, "key": "w"})
             verdict = await told(socket, "verdict")
@@ -62,7 +62,7 @@ class Sockets(Case):
             await it.post(0, WALL)
             # the next one is a minute away, so the verdict is next, as where no ticks were asked for
             for socket in (few, none):
-                self.assertEqual((await socket.receive_json(timeout=10))["kind"], "verdict")
+                self.assertEqual((await socket.receive_json(timeout=120))["kind"], "verdict")
             for query in ("?ticks=-1", "?ticks=60001", "?ticks=x"):
                 self.assertEqual((await it.ask("GET", "/stream" + query))[0], 422)
             self.assertEqual((await it.ask("GET", "/stream"))[0], 400)
@@ -80,10 +80,10 @@ class Sockets(Case):
             for first in ('{"token":"x"}', '{"token":["a"]}', "[]", "a", '{"robot":0,"cell":1}'):
                 async with it.session.ws_connect(it.server.make_url("/stream")) as socket:
                     await socket.send_str(first)
-                    message = await socket.receive(timeout=10)
+                    message = await socket.receive(timeout=120)
                     self.assertEqual(message.data, seats.BAD_TOKEN, first)
             async with it.session.ws_connect(it.server.make_url("/stream"), headers={"Authorization": "Bearer a"}) as socket:
-                self.assertEqual((await socket.receive_json(timeout=10))["client"], "alice")
+                self.assertEqual((await socket.receive_json(timeout=120))["client"], "alice")
             self.assertEqual((await it.ask("GET", "/stream", token="x", headers={
                 "Connection": "Upgrade", "Upgrade": "websocket", "Sec-WebSocket-Version": "13", "Sec-WebSocket-Key": "AAAAAAAAAAAAAAAAAAAAAA=="}))[0], 401)
 
@@ -92,7 +92,7 @@ class Sockets(Case):
             async with it.socket(token="a"):
                 async with it.session.ws_connect(it.server.make_url("/stream")) as second:
                     await second.send_json({"token": "a"})
-                    self.assertEqual((await second.receive(timeout=10)).data, seats.TRY_AGAIN_LATER)
+                    self.assertEqual((await second.receive(timeout=120)).data, seats.TRY_AGAIN_LATER)
             await it.until(lambda: not len(it.seats))
             async with it.socket(token="a"):
                 pass
@@ -100,7 +100,7 @@ class Sockets(Case):
     async def test_a_gateway_that_ends_says_so(self):
         async with self.gateway() as it, it.socket() as one:
             await it.seats.close()
-            self.assertEqual((await one.receive(timeout=10)).type, aiohttp.WSMsgType.CLOSE)
+            self.assertEqual((await one.receive(timeout=120)).type, aiohttp.WSMsgType.CLOSE)
             await it.until(lambda: not len(it.seats))
 
     async def test_a_slow_reader_is_dropped(self):

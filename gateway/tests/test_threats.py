@@ -4,6 +4,7 @@ import asyncio
 import contextlib
 import hmac
 import io
+import re
 import socket
 import sqlite3
 import sys
@@ -102,7 +103,7 @@ class Threats(Case):
                     raise ConnectionResetError
         finally:
             process.terminate()
-            self.assertEqual(process.wait(60), 0)
+            self.assertEqual(process.wait(300), 0)
             process.stdout.close()
             for one in held:
                 one.close()
@@ -112,8 +113,18 @@ class Threats(Case):
             async with self.gateway() as it:
                 reader, writer = await asyncio.open_connection(it.server.host, it.server.port)
                 writer.write(b"POST /errands HTTP/1.1\r\nHost: localhost\r\nContent-Type: application/json\r\nContent-Length: 30\r\n\r\n{")
-                self.assertIn(b" 422 ", await asyncio.wait_for(reader.readline(), 20))
+                self.assertIn(b" 422 ", await asyncio.wait_for(reader.readline(), 120))
                 writer.close()
+
+
+    def test_each_entry_of_the_list_has_a_test(self):
+        text = (HERE.parents[1] / "docs" / "GATEWAY.md").read_text().split("## Threats\n")[1].split("\n## ")[0]
+        rows = [line.split(" | ") for line in text.splitlines() if line.startswith("| ") and "Test in" not in line]
+        there = set(re.findall(r"def (test_\w+)", "".join(path.read_text() for path in HERE.glob("test_*.py"))))
+        self.assertGreater(len(rows), 10)
+        for threat, _, tests in rows:
+            named = re.findall(r"`(test_\w+)`", tests)
+            self.assertTrue(named and set(named) <= there, (threat, set(named) - there))
 
 
 class Tokens(Case):

@@ -4,94 +4,15 @@ import asyncio
 import json
 import pathlib
 import shutil
-import socket
 import sqlite3
-import subprocess
 import time
 import unittest
 from unittest import mock
 
 from kit import Case
-from nashirudder_gateway.broker import Address
+from kit_broker import MOSQUITTO, Broker, Log, faults
 from nashirudder_gateway.simulated import Simulated
 from nashirudder_gateway.vda5050 import Name, cell_of
-
-MOSQUITTO = shutil.which("mosquitto") or "/usr/sbin/mosquitto"
-
-
-def free_port():
-    with socket.socket() as it:
-        it.bind(("127.0.0.1", 0))
-        return it.getsockname()[1]
-
-
-class Broker:
-    """mosquitto, for whoever is on this machine."""
-
-    def __init__(self, folder):
-        self.port = free_port()
-        self.config = folder / "mosquitto.conf"
-        self.config.write_text(f"listener {self.port} 127.0.0.1\nallow_anonymous true\n")
-        self.address = Address("127.0.0.1", self.port)
-        self.start()
-
-    def start(self):
-        self.process = subprocess.Popen([MOSQUITTO, "-c", str(self.config)], stdout=subprocess.DEVNULL, stderr=subprocess.DEVNULL)
-        for _ in range(500):
-            with socket.socket() as it:
-                if it.connect_ex(("127.0.0.1", self.port)) == 0:
-                    return
-            time.sleep(0.01)
-        raise AssertionError("mosquitto did not start")
-
-    def stop(self):
-        self.process.terminate()
-        self.process.wait()
-
-
-class Log:
-    """What the broker handed on, in its order."""
-
-    def __init__(self, broker, path):
-        self.path = path
-        with path.open("w") as out:
-            self.process = subprocess.Popen(["mosquitto_sub", "-h", "127.0.0.1", "-p", str(broker.port), "-v", "-t", "ring/v2/#"],
-                                            stdout=out, stderr=subprocess.DEVNULL)
-
-    def messages(self):
-        """Each message with its kind and its vehicle."""
-        for line in self.path.read_text().splitlines():
-            topic, _, text = line.partition(" ")
-            words = topic.split("/")
-            if len(words) == 5:
-                yield words[4], int(words[3]), json.loads(text)
-
-    def close(self):
-        self.process.terminate()
-        self.process.wait()
-
-
-def faults(messages, starts):
-    """What the messages break: a vehicle on a node that it was not released for, or sent to a cell where another stands or goes."""
-    at, bound, released, found = dict(enumerate(starts)), {}, {robot: set() for robot in range(len(starts))}, []
-    for kind, robot, told in messages:
-        if kind == "order":
-            for node in told["nodes"]:
-                if not node["released"]:
-                    continue
-                cell = cell_of(node["nodeId"])
-                others = {it for other, it in [*at.items(), *bound.items()] if other != robot}
-                if cell in others:
-                    found.append(f"{robot} was sent to {cell}, where another is")
-                released[robot].add((node["sequenceId"], cell))
-                bound[robot] = cell
-        elif kind == "state" and told["orderId"]:
-            cell = cell_of(told["lastNodeId"])
-            if (told["lastNodeSequenceId"], cell) not in released[robot]:
-                found.append(f"{robot} is at {cell}, and was not released for it")
-            at[robot] = cell
-    return found
-
 
 @unittest.skipUnless(pathlib.Path(MOSQUITTO).exists() and shutil.which("mosquitto_sub"), "Debian's mosquitto and mosquitto-clients are not there")
 class Vehicles(Case):
@@ -125,14 +46,14 @@ class Vehicles(Case):
                 await socket.send_json({"robot": 0, "cell": 18, "key": "a"})
                 kinds = []
                 while "stands" not in kinds:
-                    told = await socket.receive_json(timeout=20)
+                    told = await socket.receive_json(timeout=120)
                     kinds.append(told["kind"])
                 self.assertEqual(kinds, ["verdict", "arrival", "stands"])
             _, told, _ = await gateway.ask("GET", "/vehicles")
             self.assertTrue(told["is_set"])
             self.assertEqual([it["vehicle"] for it in told["vehicles"]], ["nashirudder/0", "nashirudder/1"])
             self.assertEqual([it["trouble"] for it in told["vehicles"]], [None, None])
-        self.assertIn(18, {cell_of(told["lastNodeId"]) for kind, robot, told in self.log.messages() if kind == "state" and robot == 0})
+            await gateway.until(lambda: 18 in {cell_of(told["lastNodeId"]) for kind, robot, told in self.log.messages() if kind == "state" and robot == 0})
         self.assertEqual([cell_of(it.last) for it in driven], gateway.desk.vehicles.log.placements[-1].cells)
         self.no_fault()
 
@@ -140,10 +61,9 @@ class Vehicles(Case):
         async with self.gateway(broker=self.broker.address) as gateway:
             self.vehicles(cells=(0,))
             errand = await self.posted(gateway, 0, 1)
-            await asyncio.sleep(0.5)
+            await gateway.until(lambda: gateway.desk.what_is_wrong == "the vehicle of robot 1 is not to be sent on: no-connection")
+            self.assertEqual((await gateway.ask("GET", "/health"))[1]["trouble"], gateway.desk.what_is_wrong)
             self.assertEqual((await gateway.errand(errand))["state"], "accepted")
-            _, told, _ = await gateway.ask("GET", "/health")
-            self.assertEqual(told["trouble"], "the vehicle of robot 1 is not to be sent on: no-connection")
             second = Simulated(self.broker.address, "ring", Name("nashirudder", "1"), 3, 40.0)
             self.addCleanup(second.close)
             await gateway.until(lambda: gateway.desk.journal.find(errand).state == "arrived")
@@ -208,7 +128,7 @@ class Vehicles(Case):
             self.assertEqual([cell_of(it.last) for it in driven], gateway.desk.vehicles.log.placements[-1].cells)
         self.no_fault()
 
-    async def test_after_a_kill_vehicles_come_back_to_the_chapter(self):
+    async def test_after_a_kill_vehicles_go_on_with_the_plan(self):
         driven, errands = None, {}
         for turn in range(3):
             gateway = self.gateway(broker=self.broker.address, keep_every=300.0)
@@ -232,6 +152,7 @@ class Vehicles(Case):
         await gateway.running
         await gateway.session.close()
         await gateway.server.close()
+        desk.end()
         gateway.broker.close()
 
     async def test_the_broker_comes_back(self):
@@ -256,6 +177,37 @@ class Vehicles(Case):
             self.assertEqual((driven[0].last, driven[0].nodes), ("c0", []))
             vehicles.log.add = add
             await gateway.until(lambda: gateway.desk.journal.find(errand).state == "arrived" and gateway.desk.trouble == "")
+
+    async def test_factsheets_are_read_and_checked(self):
+        async with self.gateway(broker=self.broker.address) as gateway:
+            driven = self.vehicles()
+
+            async def shown():
+                told = (await gateway.ask("GET", "/vehicles"))[1]["vehicles"]
+                return [[it[word] for word in ("speed", "length", "width", "factsheet_fault")] for it in told]
+
+            await gateway.until(lambda: all(it.body is not None for it in gateway.desk.vehicles.all))
+            self.assertEqual(await shown(), [[40.0, 0.8, 0.6, None]] * 2)
+            good = driven[1].factsheet()
+            body, kind = good["physicalParameters"], good["typeSpecification"]
+            for count, fault in enumerate((
+                    {"physicalParameters": {**body, "speedMax": 0}}, {"physicalParameters": {**body, "speedMin": 41.0}}, {"physicalParameters": {**body, "width": float("nan")}},
+                    {"physicalParameters": {**body, "length": 1e7}}, {"physicalParameters": {}}, {"typeSpecification": {**kind, "agvClass": "BOAT"}},
+                    {"typeSpecification": None}, {"serialNumber": "0"}, {"protocolLimits": 7}), 1):
+                driven[1]._client.publish("ring/v2/nashirudder/1/factsheet", json.dumps({**good, **fault}))
+                await gateway.until(lambda: gateway.desk.vehicles.bad_messages == count)
+                told = await shown()
+                self.assertEqual((told[0], told[1][:3]), ([40.0, 0.8, 0.6, None], [40.0, 0.8, 0.6]))
+                self.assertIn("another vehicle" if "serialNumber" in fault else next(iter(fault)), told[1][3])
+                self.assertIn("gateway_vehicle_factsheets_bad 1\n", (await gateway.ask("GET", "/metrics"))[1])
+                gateway.desk.vehicles.all[1].factsheet_fault = None
+            driven[1]._client.publish("ring/v2/nashirudder/1/factsheet", "[]")
+            await gateway.until(lambda: gateway.desk.vehicles.all[1].factsheet_fault)
+            body["speedMax"] = 2.5
+            driven[1]._client.publish("ring/v2/nashirudder/1/factsheet", json.dumps(good))
+            await gateway.until(lambda: gateway.desk.vehicles.all[1].body.speedMax == 2.5)
+            self.assertEqual((await shown())[1], [2.5, 0.8, 0.6, None])
+            self.assertTrue(gateway.desk.vehicles.is_set)
 
     async def test_messages_that_are_at_fault_are_left(self):
         async with self.gateway(broker=self.broker.address) as gateway:

@@ -36,12 +36,12 @@ from .fleet import AnyFleet
 from .live import LiveErrand, LiveFleet
 from .orders import Errand
 from .pipes import Fleet
-from .records import Arrival, Chapter, Farewell, Look, OpenErrand, Standing
+from .records import Arrival, Chapter, Farewell, Look, OpenErrand, Session, Standing
 
 __version__ = "0.1.0"
 
 __all__ = [
     "AnyFleet", "Arrival", "Chapter", "Ended", "Errand", "Farewell", "FileFailed", "Fleet", "FleetError", "Late",
     "LiveErrand", "LiveFleet", "Look", "Missing", "NoMemory", "OpenErrand", "OrderRefused", "OutOfRange", "Refused",
-    "Standing", "Waiting",
+    "Session", "Standing", "Waiting",
 ]

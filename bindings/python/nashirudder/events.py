@@ -1,6 +1,6 @@
 """What a stream of a fleet tells, in the order of the program's lines: `stream.FleetStream`."""
 
-from typing import Any, List, NamedTuple, Optional, Union
+from typing import Any, List, NamedTuple, Optional, Sequence, Union
 
 
 class Posted(NamedTuple):
@@ -21,17 +21,18 @@ class NotPosted(NamedTuple):
 
 class Judged(NamedTuple):
     """An order was judged: `verdict` is its word, such as "accepted", "withdrawn" or "queue-full". An accepted one is
-    the client's errand `errand`; else this is None."""
+    the client's errand `errand`; else this is None. `seq` counts the client's notices, of both kinds, from 1."""
 
     client: int
     number: int
     verdict: str
     errand: Optional[int]
     note: Any
+    seq: int
 
 
 class Arrived(NamedTuple):
-    """An errand is done. `note` is that of its order, or None for one that was accepted before this program started."""
+    """An errand is done. `note` is that of its order, or None for one that was accepted before this program started. `seq` is as in Judged."""
 
     client: int
     errand: int
@@ -40,6 +41,7 @@ class Arrived(NamedTuple):
     tick: int
     stamp: int
     note: Any
+    seq: int
 
 
 class Moved(NamedTuple):
@@ -58,3 +60,13 @@ class Over(NamedTuple):
 
 
 Event = Union[Posted, NotPosted, Judged, Arrived, Moved, Over]
+
+
+def notice_in(words: Sequence[bytes]) -> Union[Judged, Arrived]:
+    """What a line `collected ..` says, without a note."""
+    client, seq, number = int(words[1]), int(words[2]), int(words[4])
+    if words[3] == b"arrived":
+        robot, cell, tick, stamp = (int(word) for word in words[6::2])
+        return Arrived(client, number, robot, cell, tick, stamp, None, seq)
+    verdict = words[7] if words[5] == b"refused" else words[5]
+    return Judged(client, number, verdict.decode(), int(words[6]) if verdict == b"accepted" else None, None, seq)

@@ -12,7 +12,7 @@ from typing import IO, Any, Callable, Iterator, List, Optional, Sequence, TypeVa
 
 from .errors import Ended, FileFailed, FleetError, Late, Missing, NoMemory, refusal
 from .orders import Order
-from .records import Chapter, Look, OpenErrand
+from .records import Chapter, Look, OpenErrand, Session
 from .turns import need_own_process
 
 T = TypeVar("T")
@@ -58,6 +58,13 @@ def errands_in(lines: Sequence[Sequence[str]]) -> List[OpenErrand]:
         raise refusal("no-client")
     told = [[int(word) for word in words[1::2]] for words in lines if words[2] == "number"]
     return [OpenErrand(client, number, robot, cell, place) for client, number, robot, cell, place in told]
+
+
+def session_in(words: Sequence[str]) -> Session:
+    """What a line `session ..` says. Raises Refused if it is a refusal."""
+    if words[0] == "no-client":
+        raise refusal("no-client")
+    return Session(orders=int(words[3]), notices=int(words[5]), told_from=int(words[8]), is_closed=words[10] == "true")
 
 
 def end_of(status: Optional[int], complaint: str) -> FleetError:

@@ -45,6 +45,18 @@ class OpenErrand:
 
 
 @dataclass(frozen=True)
+class Session:
+    """How far a client's orders and notices have come: `orders` of its orders were taken, and `notices` notices were told to it, of which those from
+    number `told_from` on can be told again; if none can, `told_from` is `notices` and one more. `is_closed` says whether it posted a close.
+    """
+
+    orders: int
+    notices: int
+    told_from: int
+    is_closed: bool
+
+
+@dataclass(frozen=True)
 class Standing:
     """How a robot stands.
 

@@ -7,35 +7,22 @@
 """
 
 import asyncio
-from collections import deque
-from typing import Any, Deque, Dict, List, NamedTuple, Optional, Sequence, Tuple
+import os
+from typing import Any, List, Optional, Sequence, Union
 
 from . import finding, opening
-from .errors import Ended, FleetError, Missing, OutOfRange, Refused
-from .events import Arrived, Event, Judged, Moved, NotPosted, Over, Posted
+from .errors import Ended, FleetError, Missing, OutOfRange, Refused, refusal
+from .events import Arrived, Event, Judged, Over, notice_in
 from .finding import Place
 from .opening import Planner, Text, Ties
-from .process import end_of, errands_in, look_in
-from .ranges import whole_number
-from .records import Look, OpenErrand
-from .stream_pipes import StreamPipes
+from .process import end_of, errands_in, look_in, session_in
+from .ranges import long_number, whole_number
+from .records import Look, OpenErrand, Session
+from .stream_book import Asked, Lines, StreamBook
+from .stream_pipes import StreamPipes, WholeLines
 
-# While this many events wait to be read, ticks are left out
-MOST_EVENTS = 1000
+MOST_RECALL = 2**24
 _MOST_COMPLAINT = 8192
-
-
-Lines = List[List[str]]
-
-
-class _Asked(NamedTuple):
-    answer: "Optional[asyncio.Future[Lines]]"
-    client: int
-    note: Any
-    lines: Lines
-    # the errand that is taken back
-    errand: Optional[int] = None
-
 
 class FleetStream:
     """The program `fleet live`, spoken to from one asyncio loop. `open` makes one. It is an asynchronous iterator over the
@@ -43,21 +30,15 @@ class FleetStream:
     something. While 1,000 events wait to be read, ticks are left out, never another event."""
 
     def __init__(self) -> None:
-        self._marks = 0
-        self._asked: Dict[bytes, _Asked] = {}
-        self._orders: Dict[Tuple[int, int], _Asked] = {}
-        self._errands: Dict[Tuple[int, int], Any] = {}
-        self._seqs: Dict[int, int] = {}
-        self._events: Deque[Event] = deque()
+        self._book = StreamBook()
+        self._events = self._book.events
         self._out: List[str] = []
         self._rest = b""
         self._complaint = ""
-        self._ticks: Optional[int] = None
         self._is_over = False
         self._loop = asyncio.get_running_loop()
         self._news: "Optional[asyncio.Future[None]]" = None
-        self._has_room, self._gone = asyncio.Event(), asyncio.Event()
-        self._has_room.set()
+        self._gone = asyncio.Event()
         self.begun: Look
 
     @classmethod
@@ -75,22 +56,26 @@ class FleetStream:
         resume: bool = False,
         planner: Planner = "plain",
         keep_every_ms: Optional[float] = None,
+        journal: bool = False,
+        recall: Optional[int] = None,
         metrics: Optional[Place] = None,
         built: Optional[Place] = None,
         life: Optional[int] = None, orders: Optional[int] = None, clock: Optional[int] = None, lane: Optional[int] = None,
         outlet: Optional[int] = None, queue: Optional[int] = None, mailbox: Optional[int] = None,
         chapter: Optional[int] = None, chapters: Optional[int] = None,
     ) -> "FleetStream":
-        """Starts the program. With `watch` each turn is an event Moved; the other words are those of `LiveFleet`, and
-        `metrics` is the file of figures. Raises what `LiveFleet` raises.
+        """Starts the program. With `watch` each turn is an event Moved; with `journal` what an event or an answer tells is
+        on the disk of `traces`, and stands after a kill; of each client's notices the last `recall` ones can be told again (`since`);
+        `metrics` is the file of figures. The other words are those of `LiveFleet`. Raises what `LiveFleet` raises.
 
         `begun` of what is returned is how the fleet stood then.
         """
         limits = opening.limits_in(locals())
         told = opening.checked(map, robots, clients, ties, traces, limits, text)
-        if keep_every_ms is not None and told.traces is None:
-            raise OutOfRange("a fleet that keeps a chapter so often has a folder for traces")
-        words = [finding.program(built), "live", *opening.trace_words(told, resume), *["--watch"] * watch]
+        if (keep_every_ms is not None or journal) and told.traces is None:
+            raise OutOfRange("a fleet that keeps a journal, or a chapter so often, has a folder for traces")
+        words = [finding.program(built), "live", *opening.trace_words(told, resume), *["--watch"] * watch, *["--journal"] * journal]
+        words += [] if recall is None else ["--recall", str(whole_number("recall", recall, 0, MOST_RECALL))]
         if opening.checked_planner(planner):
             words += ["--planner", planner]
         for word, time in (("--period", period_ms), ("--keep-every", keep_every_ms)):
@@ -102,17 +87,24 @@ class FleetStream:
         return stream
 
     async def _start(self, words: List[str], told: opening.Opening) -> None:
-        pipes = StreamPipes(self._hear, self._complain, self._has_room, self._end)
+        pipes = StreamPipes(self._hear, self._complain, self._end)
+        read_end, write_end = os.pipe()
+        self._stdin = WholeLines(write_end)
         try:
             # a session of its own: Ctrl-C in a terminal is for this process, which then ends the program
-            self._transport, _ = await self._loop.subprocess_exec(lambda: pipes, *words, start_new_session=True)
-        except OSError as error:
-            raise Missing(f"{words[0]} cannot be started: {error}") from error
-        self._stdin: Any = self._transport.get_pipe_transport(0)
+            self._transport, _ = await self._loop.subprocess_exec(lambda: pipes, *words, stdin=read_end, start_new_session=True)
+        except BaseException as error:
+            self._stdin.close()
+            if isinstance(error, OSError):
+                raise Missing(f"{words[0]} cannot be started: {error}") from error
+            raise
+        finally:
+            os.close(read_end)
         try:
             self.begun = await self.look()
         except BaseException as error:
             self._transport.close()
+            self._stdin.close()
             if isinstance(error, Refused):
                 raise told.named(error) from None
             raise
@@ -124,36 +116,34 @@ class FleetStream:
 
     # ---- what is asked
 
-    def _send(self, line: str, asked: _Asked) -> None:
+    def _send(self, line: str, asked: Asked) -> None:
         if self._is_over:
             raise self._ended()
-        self._marks += 1
-        self._asked[b"@%d" % self._marks] = asked
         if not self._out:
             self._loop.call_soon(self._flush)
-        self._out.append(f"@{self._marks} {line}\n")
+        self._out.append(self._book.note(line, asked))
 
     def _flush(self) -> None:
-        text, self._out = "".join(self._out), []
+        lines, self._out = self._out, []
         if not self._is_over:
-            self._stdin.write(text.encode())
+            self._stdin.write(lines)
 
     def go(self, robot: int, cell: int, client: int = 0, note: Any = None) -> None:
         """Posts an errand. Its events have `note`: Posted or NotPosted, then Judged, then Arrived. Raises OutOfRange,
         and Ended once the program has ended."""
         robot, cell, client = whole_number("robot", robot), whole_number("cell", cell), whole_number("client", client)
-        self._send(f"post {client} go {robot} {cell}", _Asked(None, client, note, []))
+        self._send(f"post {client} go {robot} {cell}", Asked(None, client, note, []))
 
     def withdraw(self, errand: int, client: int = 0, note: Any = None) -> None:
         """Posts the withdrawal of the client's errand of this number. Raises as `go` does."""
         errand, client = whole_number("errand", errand), whole_number("client", client)
-        self._send(f"post {client} withdraw {errand}", _Asked(None, client, note, [], errand))
+        self._send(f"post {client} withdraw {errand}", Asked(None, client, note, [], errand))
 
     def ask(self, line: str) -> "asyncio.Future[Lines]":
         """A future of a line's answer: its lines, as words. It fails with Ended if the program ends before. The line
         has to be one of docs/PROTOCOL.md, not `quit`, and without a mark."""
         answer: "asyncio.Future[Lines]" = self._loop.create_future()
-        self._send(line, _Asked(answer, 0, None, []))
+        self._send(line, Asked(answer, 0, None, []))
         return answer
 
     async def look(self) -> Look:
@@ -164,14 +154,32 @@ class FleetStream:
         """The client's errands that are accepted, and neither done nor withdrawn. Raises Refused with "no-client"."""
         return errands_in(await self.ask(f"open {whole_number('client', client)}"))
 
+    async def session(self, client: int = 0) -> Session:
+        """How far the client's orders and notices have come. Raises Refused with "no-client"."""
+        return session_in((await self.ask(f"session {whole_number('client', client)}"))[0])
+
+    async def since(self, seq: int, client: int = 0) -> List[Union[Judged, Arrived]]:
+        """The client's notices above this number that can be told again, in their order and without notes: all that were told before
+        the last line of the answer. Those that are told meanwhile are events too. Raises Refused with "no-client"."""
+        seq, client = long_number("seq", seq), whole_number("client", client)
+        told: List[Union[Judged, Arrived]] = []
+        while True:
+            *lines, end = await self.ask(f"since {client} {seq}")
+            if end[0] == "no-client":
+                raise refusal("no-client")
+            if not lines:
+                return told
+            told += [notice_in([word.encode() for word in words]) for words in lines]
+            seq = told[-1].seq
+
     @property
     def unanswered(self) -> int:
         """How many lines have no answer yet."""
-        return len(self._asked)
+        return len(self._book.asked)
 
     async def drain(self) -> None:
         """Waits until the program's pipe has room."""
-        await self._has_room.wait()
+        await self._stdin.has_room.wait()
 
     # ---- what is heard
 
@@ -180,68 +188,11 @@ class FleetStream:
         self._rest = lines.pop()
         try:
             for line in lines:
-                self._take(line)
+                self._book.take(line)
         except (ValueError, LookupError):
             self._complaint = f"it said what is no line of the protocol: {line[:200]!r}"
             self._transport.kill()
         self._wake()
-
-    def _take(self, line: bytes) -> None:
-        words = line.split()
-        if words[0] == b"collected":
-            self._notice(words)
-        elif words[0] == b"tick":
-            if len(self._events) < MOST_EVENTS:
-                self._events.append(Moved(int(words[1][:-1]), [int(word) for word in words[2:]]))
-        elif words[0] == b"ended":
-            self._ticks = int(words[1])
-        elif words[0].startswith(b"@"):
-            self._answer(words)
-        else:
-            raise ValueError(line)
-
-    def _answer(self, words: List[bytes]) -> None:
-        asked = self._asked[words[0]]
-        if asked.answer is None:
-            del self._asked[words[0]]
-            if words[1] == b"posted":
-                number = int(words[3])
-                self._orders[asked.client, number] = asked
-                self._events.append(Posted(asked.client, number, asked.note))
-            else:
-                name = words[-1] if words[1] == b"post-refused" else words[1]
-                self._events.append(NotPosted(asked.client, name.decode(), asked.note))
-            return
-        asked.lines.append([word.decode() for word in words[1:]])
-        if words[1] == b"open" and words[3] != b"end":
-            return                              # further lines of this answer follow
-        del self._asked[words[0]]
-        if asked.answer.done():
-            return
-        if words[1] == b"bad-line":
-            return asked.answer.set_exception(FleetError("the program does not take this line"))
-        asked.answer.set_result(asked.lines)
-
-    def _notice(self, words: List[bytes]) -> None:
-        client, seq, number = int(words[1]), int(words[2]), int(words[4])
-        if seq != self._seqs.get(client, seq - 1) + 1:
-            raise ValueError("a notice was lost")
-        self._seqs[client] = seq
-        if words[3] == b"verdict":
-            asked, verdict, errand = self._orders.pop((client, number), None), words[5], None
-            note = None if asked is None else asked.note
-            if verdict == b"accepted":
-                errand = int(words[6])
-                self._errands[client, errand] = note
-            elif verdict == b"refused":
-                verdict = words[7]
-            elif asked is not None and asked.errand is not None:
-                self._errands.pop((client, asked.errand), None)     # it was withdrawn, and will not arrive
-            self._events.append(Judged(client, number, verdict.decode(), errand, note))
-        else:
-            note = self._errands.pop((client, number), None)
-            robot, cell, tick, stamp = (int(word) for word in words[6::2])
-            self._events.append(Arrived(client, number, robot, cell, tick, stamp, note))
 
     def _complain(self, data: bytes) -> None:
         said = (self._complaint + data.decode(errors="replace")).splitlines(True)
@@ -257,12 +208,9 @@ class FleetStream:
 
     def _end(self) -> None:
         self._is_over = True
-        self._events.append(Over(self._transport.get_returncode(), self._ticks, self._complaint.strip()))
-        for asked in self._asked.values():
-            if asked.answer is not None and not asked.answer.done():
-                asked.answer.set_exception(self._ended())
-        self._asked.clear()
-        self._has_room.set()
+        self._events.append(Over(self._transport.get_returncode(), self._book.ticks, self._complaint.strip()))
+        self._book.end(self._ended())
+        self._stdin.close()
         self._gone.set()
         self._wake()
 
@@ -271,7 +219,7 @@ class FleetStream:
         killed if it has not ended within `timeout` seconds. The events up to Over can be read after."""
         if not self._is_over:
             self._flush()
-            self._stdin.write(b"quit\n")
+            self._stdin.write(["quit\n"])
             if not (await asyncio.wait((asyncio.ensure_future(self._gone.wait()),), timeout=timeout))[0]:
                 self._transport.kill()
                 await self._gone.wait()
