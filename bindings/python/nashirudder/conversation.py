@@ -1,7 +1,7 @@
 """What a fleet in real time is asked and told, over all lives of its program."""
 
 import threading
-from typing import Callable, Dict, List, Optional, Sequence
+from typing import Callable, Dict, Iterable, List, Optional, Sequence
 
 from .answers import Asked
 from .caller import Caller
@@ -31,9 +31,13 @@ class Conversation:
         # Held while what clients remember changes; the program's own lock is never waited for within it.
         self._lock = threading.RLock()
 
-    def begin(self, words: Sequence[str], timeout: Optional[float], over: Callable[[], None]) -> None:
-        """Starts the program, for the first time or once more. `over` is as for `Program`."""
+    def begin(self, words: Sequence[str], timeout: Optional[float], over: Callable[[], None], unknown: int = 0) -> None:
+        """Starts the program, for the first time or once more. `over` is as for `Program`; of so many clients it is `unknown` what there was
+        before, and `know` has to follow.
+        """
         with self._lock:
+            for client in range(unknown):
+                self._memory(client)
             # Who asked the program before was told that it ended.
             self._pending = {}
             for memory in self._memories.values():
@@ -45,9 +49,10 @@ class Conversation:
     def know(self, clients: int) -> None:
         """Asks of a fleet that goes on, and of which nothing is remembered, how many orders and notices there were."""
         for client in range(clients):
+            words = self.program.ask(f"session {client}")[0][0]
             with self._lock:
                 memory = self._memory(client)
-            memory.begin(self.program.ask(f"session {client}")[0][0])
+                self._take_in(memory, memory.begin(words))
 
     def catch_up(self) -> None:
         """Takes in what the clients were not told, and posts again what the fleet does not have. Raises FileFailed if the
@@ -141,7 +146,10 @@ class Conversation:
 
     def _hear_notice(self, words: List[str]) -> None:
         memory = self._memory(int(words[1]))
-        for _, _, _, kind, number, *said in memory.due(words):
+        self._take_in(memory, memory.due(words))
+
+    def _take_in(self, memory: Memory, notices: Iterable[List[str]]) -> None:
+        for _, _, _, kind, number, *said in notices:
             if kind == "verdict":
                 self._ledger.judged(memory.judged(int(number)), *verdict_in(said))
                 self._send_next(memory)

@@ -108,7 +108,8 @@ class LiveFleet(Closing):
         try:
             files = self._files.enter_context(told.files())
             self._words_again = [*words, *opening.trace_words(told, journal), *files]
-            self._said.begin([*words, *opening.trace_words(told, resume), *files], timeout, self._tell_awaited)
+            words += [*opening.trace_words(told, resume), *files]
+            self._said.begin(words, timeout, self._tell_awaited, told.clients if resume else 0)
         except BaseException:
             self._let_go(timeout)
             raise

@@ -82,6 +82,9 @@ class Memory:
         if seq > self.last + 1 and not self._is_behind:
             raise ValueError("a notice was lost")
         self._early[seq] = words
+        yield from self._next_notices()
+
+    def _next_notices(self) -> Iterator[List[str]]:
         while self.last + 1 in self._early:
             self.last += 1
             yield self._early.pop(self.last)
@@ -97,9 +100,14 @@ class Memory:
         for order in self._orders:
             order._is_posted = True
 
-    def begin(self, words: List[str]) -> None:
-        """The program goes on from chapters whose orders and notices somebody else remembers."""
+    def begin(self, words: List[str]) -> Iterator[List[str]]:
+        """The program goes on from chapters whose orders and notices somebody else remembers, as it says of the session.
+        Returns the notices that were told since.
+        """
         self._judged, self.last = int(words[3]), int(words[5])
+        self._is_behind = False
+        self._early = {seq: notice for seq, notice in self._early.items() if seq > self.last}
+        yield from self._next_notices()
 
     def session(self, words: List[str]) -> int:
         """How many notices the fleet has told, by what it says of the session. Raises FileFailed if that is not the fleet

@@ -140,6 +140,28 @@ class ReconnectCallsTest(KilledFleetsTest):
         with self.assertRaises(Ended):
             before.close()
 
+    def test_notices_before_the_first_answer(self):
+        """What is told before the program has said which notices there were is taken in by the caller whose errand it is, once."""
+        ticking = f"#!/bin/sh\n{{ echo tick 2; exec cat; }} | {PROGRAM} \"$@\"\n"
+        with self.live() as fleet:
+            fleet.go(0, 1).accepted(60)
+        self.cut.write_text(ticking)
+        with self.live(self.cut) as fleet:
+            errand = fleet.go(0, 0)
+            self.assertEqual(errand.accepted(60), 2)
+            fleet.tick()
+            self.assertEqual(errand.arrived(60).tick, 3)
+            self.assertEqual([arrival.number for arrival in fleet._said._ledger.arrivals], [2])
+        self.cut.write_text(f"#!/bin/sh\nexec {PROGRAM} \"$@\"\n")
+        with self.live(self.cut) as fleet:
+            errand = fleet.go(1, 7)
+            self.assertEqual(errand.accepted(60), 3)
+            self.kill(fleet)
+            self.cut.write_text(ticking)
+            fleet.reconnect()
+            self.assertEqual((errand.state, errand.arrived(60).tick), ("arrived", 4))
+            self.assertEqual([arrival.number for arrival in fleet._said._ledger.arrivals], [3])
+
     def test_an_errand_that_is_awaited(self):
         async def play():
             async with self.live() as fleet:
