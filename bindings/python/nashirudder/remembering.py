@@ -23,8 +23,9 @@ class Memory:
         self._judged = 0
         # So many of the orders are with the fleet.
         self._posted = 0
-        # The number of the last notice; notices above the next one, as words, until those before them are told again
-        self.last = 0
+        # The number of the last notice, and of the last one of the lives before this; notices above the next one, as words,
+        # until those before them are told again
+        self.last = self._last_before = 0
         self._early: Dict[int, List[str]] = {}
         # Whether an order was written and not answered, the lane was full for one that has to be posted, and notices may
         # be missing
@@ -96,6 +97,7 @@ class Memory:
         self._early = {}
         self._is_asked = self._is_held_up = False
         self._is_behind = True
+        self._last_before = self.last
         self._posted = 0
         for order in self._orders:
             order._is_posted = True
@@ -110,12 +112,13 @@ class Memory:
         yield from self._next_notices()
 
     def session(self, words: List[str]) -> int:
-        """How many notices the fleet has told, by what it says of the session. Raises FileFailed if that is not the fleet
-        that this client knows.
+        """How many notices the fleet has told, by what it says of the session; further ones may be told already. Raises
+        FileFailed if that is not the fleet that this client knows.
         """
         taken, told, first = int(words[3]), int(words[5]), int(words[8])
-        if not self._judged <= taken <= self._judged + len(self._orders) or told < self.last:
-            raise FileFailed(f"the fleet does not go on: {' '.join(words)}, and the client knows {self._judged} verdicts and {self.last} notices")
+        if not self._judged <= taken <= self._judged + len(self._orders) or told < self._last_before:
+            known = f"the client knows {self._judged} verdicts and {self._last_before} notices"
+            raise FileFailed(f"the fleet does not go on: {' '.join(words)}, and {known}")
         if first > self.last + 1 and told > self.last:
             raise FileFailed(f"the fleet does not go on: {' '.join(words)}, and the client was told {self.last} notices")
         self._posted = taken - self._judged

@@ -111,38 +111,32 @@ class ReconnectTest(KilledFleetsTest):
 
     # ---- in real time
 
+    def work(self, fleet, client, orders, failed):
+        """Posts 40 errands, each once the one before is done; whoever meets the end has the fleet go on."""
+        draw = random.Random(client)
+        try:
+            for _ in range(40):
+                robot, cell = draw.randrange(2), draw.randrange(9)
+                orders.append(self.again(fleet, lambda: fleet.go(robot, cell, client)))
+                while orders[-1].state in ("posted", "accepted"):
+                    try:
+                        self.again(fleet, lambda: orders[-1].arrived(60))
+                    except OrderRefused:
+                        pass
+        except BaseException as error:
+            failed.append(error)
+
     def test_killed_in_real_time(self):
-        """One thread for each client posts and waits, and each that meets the end has the fleet go on; the program is killed after some arrivals, or as
-        soon as it is there.
-        """
-        draw, clients, each = random.Random(2), 3, 40
-        orders, failed = [[] for _ in range(clients)], []
-        fleet = self.live(clients=clients, period_ms=2, chapter=64, keep_every_ms=50)
-        ledger, left = fleet._said._ledger, [draw.choice((0, 1, 3, 6)) for _ in range(25)]
-
-        def work(client):
-            own = random.Random(client)
-            try:
-                for _ in range(each):
-                    orders[client].append(self.again(fleet, lambda: fleet.go(own.randrange(2), own.choice((0, 1, 2, 3, 4, 5, 6, 7, 8)), client)))
-                    while orders[client][-1].state in ("posted", "accepted"):
-                        try:
-                            self.again(fleet, lambda: orders[client][-1].arrived(60))
-                        except OrderRefused:
-                            pass
-            except BaseException as error:
-                failed.append(error)
-
-        self.kills = 0
-        threads = [threading.Thread(target=work, args=(client,)) for client in range(clients)]
+        """The program is killed 25 times, after some arrivals, or as soon as it is there."""
+        draw, orders, failed, self.kills = random.Random(2), [[], [], []], [], 0
+        fleet = self.live(clients=3, period_ms=2, chapter=64, keep_every_ms=50)
+        ledger, left, killed = fleet._said._ledger, [draw.choice((0, 1, 3)) for _ in range(25)], None
+        threads = [threading.Thread(target=self.work, args=(fleet, client, orders[client], failed)) for client in range(3)]
         for thread in threads:
             thread.start()
-        killed = None
         while left and any(thread.is_alive() for thread in threads):
-            until, process = len(ledger.arrivals) + left.pop(), fleet._program.process
-            while len(ledger.arrivals) < until or fleet._program.process is killed:
-                if not any(thread.is_alive() for thread in threads):
-                    break
+            until = len(ledger.arrivals) + left.pop()
+            while any(thread.is_alive() for thread in threads) and (len(ledger.arrivals) < until or fleet._program.process is killed):
                 threading.Event().wait(0.001)
             killed = fleet._program.process
             killed.kill()
