@@ -21,8 +21,8 @@ class Memory:
         # The orders without a verdict, by rising number; so many had one before the first of them
         self._orders: Deque[Order] = deque()
         self._judged = 0
-        # So many of the orders are with the fleet.
-        self._posted = 0
+        # So many of the orders are with the fleet, and so many were made before this life and are not with it yet.
+        self._posted = self._left_over = 0
         # The number of the last notice, and of the last one of the lives before this; notices above the next one, as words,
         # until those before them are told again
         self.last = self._last_before = 0
@@ -47,13 +47,15 @@ class Memory:
     def answered(self, words: List[str]) -> None:
         """What the order that was written was answered."""
         order, self._is_asked = self._orders[self._posted], False
+        if words[0] == "lane-full" and order._is_posted:
+            self._is_held_up = True
+            return
+        self._left_over = max(0, self._left_over - 1)
         if words[0] == "posted":
             if int(words[2]) != self._judged + self._posted + 1:
                 raise ValueError("an order has another number")
             order._is_posted = True
             self._posted += 1
-        elif words[0] == "lane-full" and order._is_posted:
-            self._is_held_up = True
         else:
             order._refusal = refusal(words[-1] if words[0] == "post-refused" else words[0])
             del self._orders[self._posted]
@@ -70,8 +72,8 @@ class Memory:
 
     @property
     def is_settled(self) -> bool:
-        """Whether each order is with the fleet, but for those that a full lane holds up."""
-        return self._is_held_up or self._posted == len(self._orders)
+        """Whether each order that was made before this life is with the fleet, but for those that a full lane holds up."""
+        return self._is_held_up or self._left_over == 0
 
     # ---- notices
 
@@ -98,7 +100,7 @@ class Memory:
         self._is_asked = self._is_held_up = False
         self._is_behind = True
         self._last_before = self.last
-        self._posted = 0
+        self._posted, self._left_over = 0, len(self._orders)
         for order in self._orders:
             order._is_posted = True
 
@@ -122,6 +124,7 @@ class Memory:
         if first > self.last + 1 and told > self.last:
             raise FileFailed(f"the fleet does not go on: {' '.join(words)}, and the client was told {self.last} notices")
         self._posted = taken - self._judged
+        self._left_over -= self._posted
         return told
 
     def is_up_to_date(self) -> None:
