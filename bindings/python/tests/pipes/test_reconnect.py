@@ -15,6 +15,8 @@ from kept_chapters import TOP
 from killed_fleets import KilledFleetsTest
 from nashirudder import Arrival, OrderRefused, Refused
 
+# A chain of cuts lets a life tell no more lines.
+MOST_LINES = 12
 # By client, the orders of `play`, with their verdicts
 TAKEN = {
     0: [
@@ -86,6 +88,10 @@ class ReconnectTest(KilledFleetsTest):
             ledger = fleet._said._ledger
             self.assertEqual(ledger.arrivals, COME)
             self.assertEqual([errand._arrival for errand in errands], [COME[0], None, COME[1], COME[2], COME[3], None])
+            # A cut that is not reached yet is not to meet the end.
+            self.cuts.write_text("")
+            for _ in range(MOST_LINES + 1):
+                self.again(fleet, fleet.look)
         taken = self.taken()
         self.assertEqual([len([order for order, _ in ledger.verdicts if order.client == client]) for client in (0, 1)], [6, len(taken[1])])
         more = taken[1][len(TAKEN[1]):]
@@ -104,10 +110,10 @@ class ReconnectTest(KilledFleetsTest):
     def test_killed_again_and_again(self):
         draw, kills = random.Random(1), 0
         for _ in range(12):
-            cuts = [f"{draw.choice(('within', 'after'))} {draw.randint(3, 12)}"]
-            kills += self.played(*cuts, *(f"{draw.choice(('within', 'after'))} {draw.randint(0, 12)}" for _ in range(4)))
-        # In a play the last cut, or the last two, may not be reached.
-        self.assertGreaterEqual(kills, 12 * 3)
+            ways = [draw.choice(("within", "after")) for _ in range(5)]
+            kills += self.played(*(f"{way} {draw.randint(3 if first else 0, MOST_LINES)}" for way, first in zip(ways, (1, 0, 0, 0, 0))))
+        # A play may end before the last cuts, and never before the first.
+        self.assertGreaterEqual(kills, 12)
 
     # ---- in real time
 
