@@ -33,7 +33,8 @@ and lists where it is not; all other lists of cells are lists of int.
 
 from .errors import Ended, FileFailed, FleetError, Late, Missing, NoMemory, OrderRefused, OutOfRange, Refused, Waiting
 from .fleet import AnyFleet
-from .live import LiveErrand, LiveFleet
+from .live import LiveFleet
+from .live_errand import LiveErrand
 from .orders import Errand
 from .pipes import Fleet
 from .records import Arrival, Chapter, Farewell, Look, OpenErrand, Session, Standing

@@ -2,22 +2,27 @@
 
 import contextlib
 import os
+import threading
 import weakref
-from typing import TYPE_CHECKING, Dict, List, Optional, Sequence, Tuple
+from typing import TYPE_CHECKING, List, Optional, Sequence
 
 from . import finding, opening
+from .answers import chapter_in, errands_in, look_in
 from .arrays import as_cells
 from .caller import Caller, OnTick
 from .closing import Closing
-from .errors import FleetError, OutOfRange, Refused, Waiting, refusal
+from .conversation import Conversation
+from .errors import Ended, FleetError, OutOfRange, Refused, Waiting, refusal
 from .finding import Place
 from .fleet import MOST_TICKS, TICKS_AT_ONCE
-from .names import Verdict, verdict_in
+from .live_errand import LiveErrand
+from .names import Verdict
 from .opening import Planner, Text, Ties
-from .orders import AnyErrand, Ledger, Order, need_own
-from .process import Asked, Program, chapter_in, errands_in, look_in, silently
+from .orders import Order, need_own
+from .process import Program, silently
 from .ranges import whole_number
 from .records import Arrival, Chapter, Farewell, Look, OpenErrand
+from .turns import need_own_process
 
 if TYPE_CHECKING:
     from .arrays import Cells
@@ -36,33 +41,6 @@ def _cells_in(words: List[str]) -> List[int]:
     return [int(word) for word in words[2:]]
 
 
-class LiveErrand(AnyErrand):
-    """A robot of a fleet in real time is to come to a cell, as a client asked.
-
-    `client`, `robot` and `cell` are the numbers that `go` was given.
-    """
-
-    def accepted(self, timeout: Optional[float] = None) -> int:
-        """The errand's number among its client's accepted ones, from 1. Waits `timeout` seconds at most for the verdict.
-
-        Raises OrderRefused with the verdict's name if it was refused, Waiting if the time went by, and Ended if the
-        fleet ended before.
-        """
-        self._fleet._wait_for_verdict(self, timeout)
-        return self._accepted()
-
-    def arrived(self, timeout: Optional[float] = None) -> Arrival:
-        """The arrival. Waits for it, at most `timeout` seconds. Raises as `accepted` does, and OrderRefused with
-        "withdrawn" if it was withdrawn.
-        """
-        self.accepted(timeout)
-        self._fleet._program.wait(lambda: self._is_withdrawn or self._arrival is not None, timeout)
-        arrival = self._come()
-        if arrival is None:
-            raise Waiting("the time went by")
-        return arrival
-
-
 def _is_over(fleet: "Optional[LiveFleet]") -> bool:
     """Whether there is no fleet any more that its ticks could be told."""
     return fleet is None or fleet._program.is_closed
@@ -76,7 +54,8 @@ class LiveFleet(Closing):
     the robots' cells, in a thread of its own, in which it may call any method. The first call may come before the
     constructor has returned. An exception of it is reported as that of any thread, and the next tick is told all the
     same. While it is slower than the fleet, ticks are left out. A full chapter is followed by the next. With `keep_every_ms` a chapter is written to `traces` at least once in this many
-    milliseconds, 0.001 to 3,600,000, so that a fleet that is killed loses no more than that. The other words, as `roomy` and `planner`, are those
+    milliseconds, 0.001 to 3,600,000, so that a fleet that is killed loses no more than that. With `journal` nothing is told before it is on the disk
+    of `traces`, and a fleet whose program was killed goes on by `reconnect`; `recall` is how many notices of each client can then be told again, 65,536 if not given. The other words, as `roomy` and `planner`, are those
     of `Fleet`, and so are the exceptions. Any thread may call any method.
     """
 
@@ -95,6 +74,8 @@ class LiveFleet(Closing):
         roomy: bool = False,
         planner: Planner = "plain",
         keep_every_ms: Optional[float] = None,
+        journal: bool = False,
+        recall: Optional[int] = None,
         built: Optional[Place] = None,
         timeout: Optional[float] = None,
         life: Optional[int] = None, orders: Optional[int] = None, clock: Optional[int] = None, lane: Optional[int] = None,
@@ -112,30 +93,30 @@ class LiveFleet(Closing):
             words.append("--roomy")
         if opening.checked_planner(planner):
             words += ["--planner", planner]
-        words += opening.trace_words(told, resume)
         if keep_every_ms is not None:
-            if told.traces is None:
-                raise OutOfRange("a fleet that keeps a chapter so often has a folder for traces")
-            words += ["--keep-every", f"{round(keep_every_ms * 1000)}us"]
+            words += opening.keep_words(told, keep_every_ms)
+        words += opening.journal_words(told, journal, recall)
         super().__init__()
-        self._marks = 0
-        self._pending: Dict[int, Asked] = {}
-        self._orders: Dict[Tuple[int, int], Order] = {}
-        self._ledger = Ledger()
         self._is_on_demand = period_ms is None
-        self._arrivals: List[Arrival] = []
+        # Whether it may go on after its program was killed, and who has it go on just now
+        self._keeps_journal, self._reconnecting = journal, threading.Lock()
         # The thread in which it is called does not keep the fleet alive.
         fleet = weakref.ref(self)
         self._caller = None if on_tick is None else Caller(on_tick, lambda: _is_over(fleet()))
+        self._said = Conversation(self._caller, self._is_on_demand)
         self._files = contextlib.ExitStack()
         try:
             files = self._files.enter_context(told.files())
-            self._program = Program(words + files, timeout, self._noted, self._hear_line, self._tell_awaited)
+            self._words_again = [*words, *opening.trace_words(told, journal), *files]
+            words += [*opening.trace_words(told, resume), *files]
+            self._said.begin(words, timeout, self._tell_awaited, told.clients if resume else 0)
         except BaseException:
             self._let_go(timeout)
             raise
         try:
             self.look()
+            if resume:
+                self._said.know(told.clients)
         except BaseException as error:
             silently(lambda: self._program.end(timeout))
             self._let_go(timeout)
@@ -145,50 +126,45 @@ class LiveFleet(Closing):
         if self._caller is not None:
             self._caller.start()
 
-    # ---- lines
+    @property
+    def _program(self) -> Program:
+        return self._said.program
 
-    def _noted(self, asked: Asked) -> str:
-        self._marks += 1
-        self._pending[self._marks] = asked
-        return f"@{self._marks} {asked.commands[0]}\n"
+    def reconnect(self) -> None:
+        """Has the fleet go on after its program was killed, or ended by a fault: starts the program once more, takes in
+        what was not told, and posts again the orders that the fleet does not have. Does nothing while the program runs.
 
-    def _hear_line(self, words: List[str]) -> None:
-        if words[0] == "tick":
-            if self._caller is not None:
-                self._caller.tell(int(words[1][:-1]), [int(word) for word in words[2:]])
-        elif words[0].startswith("@"):
-            asked = self._pending[int(words[0][1:])]
-            if asked.order is not None and words[1] == "posted":
-                self._orders[asked.order.client, int(words[3])] = asked.order
-            asked.answers[0].append(words[1:])
-            if words[1] == "open" and words[3] != "end":
-                # Further lines of this answer follow.
+        So each order has one verdict, and each notice is taken in once, in order. Errands go on, and a call that raised
+        Ended can be made again, but for the orders that were under way: those are posted again by this. `go` has returned
+        its errand then; whether a `withdraw` was done shows in the errand's `state`, and a second `close_client` is refused.
+
+        Raises OutOfRange if the fleet keeps no journal, Ended if it is closed or the program was killed again, what the
+        constructor raises if it does not start, and FileFailed if it goes on from another history than this fleet's, or
+        cannot tell again what is missing, since `recall` is too small. It can be called again after each of these.
+        """
+        need_own_process(self._program.opened_in)
+        if not self._keeps_journal:
+            raise OutOfRange("a fleet that is reconnected keeps a journal")
+        with self._reconnecting:
+            if not self._program.is_closed and not self._program.has_ended():
                 return
-            del self._pending[int(words[0][1:])]
-            asked.is_done = True
-        elif words[0] == "collected" and words[3] == "verdict":
-            order = self._orders.pop((int(words[1]), int(words[4])), None)
-            if order is not None:
-                self._ledger.judged(order, *verdict_in(words[5:]))
-        elif words[0] == "collected":
-            client, number = int(words[1]), int(words[4])
-            robot, cell, tick, stamp = (int(word) for word in words[6::2])
-            arrival = Arrival(robot, client, number, cell, tick, stamp)
-            self._ledger.arrived(arrival)
-            if self._is_on_demand:
-                self._arrivals.append(arrival)
+            if self._program.is_closed:
+                raise Ended(self.status, "the fleet is closed")
+            self._said.begin(self._words_again, self._program.timeout, self._tell_awaited)
+            try:
+                self.look()
+                self._said.catch_up()
+            except BaseException:
+                self._program.kill()
+                raise
 
     # ---- orders
 
     def _post(self, order: Order) -> None:
-        words = self._program.ask(f"post {order.client} {order._line}", order=order)[0][0]
-        if words[0] == "post-refused":
-            raise refusal(words[-1])
-        if words[0] != "posted":
-            raise refusal(words[0])
+        self._said.post(order, self._keeps_journal)
 
     def _wait_for_verdict(self, order: Order, timeout: Optional[float]) -> None:
-        if not self._program.wait(lambda: order._verdict is not None, timeout):
+        if not self._program.wait(lambda: order._verdict is not None or order._refusal is not None, timeout):
             raise Waiting("the time went by")
 
     def _carry_out(self, order: Order, wanted: Verdict, timeout: Optional[float]) -> None:
@@ -201,7 +177,8 @@ class LiveFleet(Closing):
         `accepted` of it says.
 
         Raises Refused with "lane-full", "client-closed", "numbers-spent", "no-client" or, of a fleet that is `roomy`, "no-room" if the order was not
-        posted.
+        posted. If the program of a fleet with a journal ends before it answers, the errand is returned all the same: it is
+        posted again by `reconnect`, if the fleet does not have it, and `accepted` raises what `go` would have raised.
         """
         client = whole_number("client", client)
         errand = LiveErrand(self, client, whole_number("robot", robot), whole_number("cell", cell))
@@ -242,7 +219,7 @@ class LiveFleet(Closing):
         """
         count = whole_number("the number of ticks", count, least=1, most=MOST_TICKS)
         if self._is_on_demand:
-            self._arrivals = []
+            self._said.arrivals = []
         cells: List[int] = []
         for made in range(0, count, TICKS_AT_ONCE):
             cells = self._program.reply(f"tick {min(TICKS_AT_ONCE, count - made)}", _cells_in)
@@ -253,7 +230,7 @@ class LiveFleet(Closing):
         """The arrivals of the last call of `tick`, in the order in which they were told. A fleet with a period keeps
         no list of them: ask its errands.
         """
-        return list(self._arrivals)
+        return list(self._said.arrivals)
 
     def look(self) -> Look:
         """How the fleet stands. It changes nothing."""
@@ -295,7 +272,7 @@ class LiveFleet(Closing):
         return self._program.why_over()
 
     def _is_left_open(self) -> bool:
-        program = getattr(self, "_program", None)
+        program = getattr(getattr(self, "_said", None), "program", None)
         return program is not None and not program.is_closed and program.opened_in == os.getpid()
 
     def _let_end(self) -> None:

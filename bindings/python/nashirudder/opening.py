@@ -13,7 +13,7 @@ from .finding import Place
 from .ranges import checked_limits, limits_in, whole_number
 
 __all__ = [
-    "ENDLESS", "MapText", "Opening", "Planner", "Text", "Ties", "checked", "checked_planner", "limits_in", "map_text", "need_traces", "read_map",
+    "ENDLESS", "MapText", "Opening", "Planner", "Text", "Ties", "checked", "checked_planner", "journal_words", "keep_words", "limits_in", "map_text", "need_traces", "read_map",
     "sides_of", "text_of", "trace_words",
 ]
 
@@ -26,6 +26,7 @@ Ties = Literal["plain", "south"]
 Planner = Literal["plain", "turns"]
 
 MOST_ROBOTS = 512
+MOST_RECALL = 16_777_216
 _MOST_SIDE = 1024
 
 # Limits that are so great, if none are given, that no fleet meets them
@@ -162,6 +163,22 @@ def trace_words(told: Opening, resume: bool) -> List[str]:
         need_traces(told, resume)
         return []
     return ["--traces", told.traces, "--resume"] if resume else ["--traces", told.traces]
+
+
+def keep_words(told: Opening, keep_every_ms: float) -> List[str]:
+    """The words of the program that say how often a chapter is kept."""
+    if told.traces is None:
+        raise OutOfRange("a fleet that keeps a chapter so often has a folder for traces")
+    return ["--keep-every", f"{round(keep_every_ms * 1000)}us"]
+
+
+def journal_words(told: Opening, journal: bool, recall: Optional[int]) -> List[str]:
+    """The words of the program that say whether it keeps a journal, and how many notices it tells again."""
+    if journal and told.traces is None:
+        raise OutOfRange("a fleet that keeps a journal has a folder for traces")
+    if recall is None:
+        return ["--journal"] * journal
+    return ["--journal"] * journal + ["--recall", str(whole_number("recall", recall, most=MOST_RECALL))]
 
 
 def need_traces(told: Opening, resume: bool) -> None:

@@ -3,7 +3,7 @@
 import contextlib
 from typing import TYPE_CHECKING, Any, Dict, Generator, List, Optional, Tuple, cast
 
-from .errors import OutOfRange, Waiting, order_refusal
+from .errors import OutOfRange, Refused, Waiting, order_refusal
 from .names import Verdict
 from .records import Arrival
 
@@ -28,6 +28,9 @@ class Order:
         self._number: Optional[int] = None
         self._arrival: Optional[Arrival] = None
         self._is_withdrawn = False
+        # Of a fleet in real time: whether it was posted, or has to be; or why it was not
+        self._is_posted = False
+        self._refusal: Optional[Refused] = None
         # Those who await it
         self._waiters: "List[Tuple[asyncio.AbstractEventLoop, asyncio.Future[None]]]" = []
 
@@ -46,6 +49,8 @@ class Order:
 
     def _expect(self, wanted: Verdict) -> None:
         """Raises Waiting if it is not judged yet, and OrderRefused if its verdict is another one."""
+        if self._refusal is not None:
+            raise self._refusal
         if self._verdict is None:
             raise Waiting("it was posted, and its client's mailbox has no room for the verdict yet")
         if self._verdict is not wanted:
@@ -78,6 +83,8 @@ class AnyErrand(Order):
             return "arrived"
         if self._is_withdrawn:
             return "withdrawn"
+        if self._refusal is not None:
+            return "refused"
         if self._verdict is None:
             return "posted"
         return "accepted" if self._verdict is Verdict.ACCEPTED else "refused"

@@ -8,80 +8,16 @@ import tempfile
 import threading
 import time
 import weakref
-from typing import IO, Any, Callable, Iterator, List, Optional, Sequence, TypeVar, cast
+from typing import IO, Any, Callable, List, Optional, Sequence, TypeVar, cast
 
-from .errors import Ended, FileFailed, FleetError, Late, Missing, NoMemory, refusal
+from .answers import Asked, chapter_in, end_of, errands_in, look_in
+from .errors import Ended, FleetError, Late, Missing
 from .orders import Order
-from .records import Chapter, Look, OpenErrand, Session
 from .turns import need_own_process
 
+__all__ = ["Asked", "Program", "chapter_in", "end_of", "errands_in", "look_in", "silently"]
+
 T = TypeVar("T")
-
-
-class Asked:
-    """Commands that are sent together, the order that they post, if they do, and what was answered so far: lines, as
-    words.
-    """
-
-    def __init__(self, commands: Sequence[str], order: Optional[Order] = None) -> None:
-        self.commands = commands
-        self.order = order
-        self.answers: List[List[List[str]]] = [[]]
-        self.is_done = False
-
-
-def look_in(words: Sequence[str]) -> Look:
-    """What a line `look ..` says."""
-    at = words.index("at")
-    named = dict(zip(words, words[1:at]))
-    return Look(
-        tick=int(named["tick"]),
-        chapter=int(named["chapter"]),
-        entries=int(named["entries"]),
-        eldest=int(named["eldest"]) if "eldest" in named else None,
-        within=int(named["within"]) if "within" in named else None,
-        cells=[int(word) for word in words[at + 1 :]],
-        blocked=int(named["blocked"]) if "blocked" in named else None,
-    )
-
-
-def chapter_in(words: Sequence[str]) -> Chapter:
-    """What a line `chapter ..` says. Raises Refused if it is a refusal."""
-    if words[0] == "chapter-refused":
-        raise refusal(words[-1])
-    return Chapter(int(words[1]), int(words[3]))
-
-
-def errands_in(lines: Sequence[Sequence[str]]) -> List[OpenErrand]:
-    """What lines `open ..` say. Raises Refused if they are a refusal."""
-    if lines[0][0] == "no-client":
-        raise refusal("no-client")
-    told = [[int(word) for word in words[1::2]] for words in lines if words[2] == "number"]
-    return [OpenErrand(client, number, robot, cell, place) for client, number, robot, cell, place in told]
-
-
-def session_in(words: Sequence[str]) -> Session:
-    """What a line `session ..` says. Raises Refused if it is a refusal."""
-    if words[0] == "no-client":
-        raise refusal("no-client")
-    return Session(orders=int(words[3]), notices=int(words[5]), told_from=int(words[8]), is_closed=words[10] == "true")
-
-
-def end_of(status: Optional[int], complaint: str) -> FleetError:
-    """What there is to raise if the program ended with this status, and wrote this on its error output."""
-    words = complaint.split()
-    if words[:2] == ["fleet:", "opening"]:
-        return refusal(words[-1])
-    if status == 4 and words[:2] == ["fleet:", "map"]:
-        numbers = [int(word) for word in words[3:]] + [0, 0]
-        return refusal(f"map-{words[2]}", (numbers[0], numbers[1]))
-    if status == 3:
-        return FileFailed(f"a file could not be read or written: {complaint}")
-    if status == 6:
-        return FileFailed(f"the fleet does not go on: {complaint}")
-    if status == 7:
-        return NoMemory(complaint)
-    return Ended(status, complaint)
 
 
 class Program:
@@ -115,6 +51,8 @@ class Program:
         self._waiting: List["queue.SimpleQueue[None]"] = []
         self._noted, self._hear, self._over = weakref.WeakMethod(noted), weakref.WeakMethod(hear), weakref.WeakMethod(over)
         self._is_over = False
+        # What it complained of, once all that is left of it was freed
+        self._said: Optional[str] = None
         self._misheard: Optional[str] = None
         self._complaints = tempfile.TemporaryFile()
         try:
@@ -232,13 +170,22 @@ class Program:
                 self._waiting.remove(news)
         raise self._ended()
 
+    @property
+    def is_over(self) -> bool:
+        """Whether it says nothing any more, or is closed."""
+        return self._is_over or self.is_closed
+
+    def put(self, asked: Asked) -> None:
+        """Sends commands, and does not wait for their answers. Nobody is told if the program ended."""
+        self._outbox.put(asked)
+
     def ask(self, *commands: str, order: Optional[Order] = None) -> List[List[List[str]]]:
         """Sends commands, and returns for each the lines of its answer, as words."""
         need_own_process(self.opened_in)
         if self.is_closed:
             raise Ended(self.status, "the fleet is closed")
         asked = Asked(commands, order)
-        self._outbox.put(asked)
+        self.put(asked)
         if not self.wait(lambda: asked.is_done, self.timeout):
             raise Late(f"no answer in {self.timeout} seconds")
         for command, answer in zip(commands, asked.answers):
@@ -255,8 +202,8 @@ class Program:
             raise Ended(None, f"to {command!r} it said what is no line of the protocol: {words}") from None
 
     def _complaint(self) -> str:
-        if self._misheard is not None:
-            return self._misheard
+        if self._said is not None or self._misheard is not None:
+            return self._said or self._misheard or ""
         self._complaints.seek(0)
         said = self._complaints.read().decode(errors="replace").strip()
         # How a fleet starts is no complaint.
@@ -265,7 +212,7 @@ class Program:
     def why_over(self) -> Optional[FleetError]:
         """What there is to raise if the program ended, or None as long as it did not."""
         with self._lock:
-            is_over = self._is_over or self.is_closed
+            is_over = self.is_over
         return self._ended() if is_over else None
 
     def _ended(self) -> FleetError:
@@ -278,6 +225,27 @@ class Program:
         except ValueError:    # another thread closed the fleet meanwhile
             return Ended(self.status, "the fleet is closed")
         return end_of(self.status, complaint)
+
+    def has_ended(self) -> bool:
+        """Whether it ended by itself, or was killed. Then all that it said was taken in, and it holds nothing any more; each
+        call goes on to raise what it ended with.
+        """
+        if not self._is_over and self.process.poll() is None:
+            return False
+        self._outbox.put(None)
+        for thread in (self._reader, self._writer):
+            thread.join()
+        self.status = self.process.wait()
+        self._said = self._complaint()
+        for file in (self.process.stdin, self.process.stdout, self._complaints):
+            with contextlib.suppress(OSError):
+                cast(IO[bytes], file).close()
+        return True
+
+    def kill(self) -> None:
+        """Kills it. `has_ended` returns True then."""
+        self.process.kill()
+        self.process.wait()
 
     def end(self, timeout: Optional[float]) -> str:
         """Lets the program end, and returns what it complained of. Raises Late if it had to be killed."""

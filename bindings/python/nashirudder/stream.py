@@ -15,7 +15,7 @@ from .errors import Ended, FleetError, Missing, OutOfRange, Refused, refusal
 from .events import Arrived, Event, Judged, Over, notice_in
 from .finding import Place
 from .opening import Planner, Text, Ties
-from .process import end_of, errands_in, look_in, session_in
+from .answers import end_of, errands_in, look_in, session_in
 from .ranges import long_number, whole_number
 from .records import Look, OpenErrand, Session
 from .stream_book import Asked, Lines, StreamBook
