@@ -28,11 +28,12 @@ fn recalls_of<R: Files + Alloc<A = Global>>(
     }
     let mut read = last.text().len();
     let mut wants = recall_trace(alloc, &mut recalls, last.text())?;
-    let mut number = last.number();
-    while wants && number > 0 && read < MOST_READ {
-        number -= 1;
+    for number in (0..last.number()).rev() {
+        if !wants || read >= MOST_READ {
+            break;
+        }
         let Ok(file) = file_of(rt, folder, number) else {
-            return Ok(recalls);
+            break;
         };
         read = read.saturating_add(file.text().len());
         wants = recall_trace(alloc, &mut recalls, file.text())?;
