@@ -109,11 +109,11 @@ class ReconnectTest(KilledFleetsTest):
 
     def test_killed_again_and_again(self):
         draw, kills = random.Random(1), 0
-        for _ in range(12):
+        for _ in range(6):
             ways = [draw.choice(("within", "after")) for _ in range(5)]
             kills += self.played(*(f"{way} {draw.randint(3 if first else 0, MOST_LINES)}" for way, first in zip(ways, (1, 0, 0, 0, 0))))
         # A play may end before the last cuts, and never before the first.
-        self.assertGreaterEqual(kills, 12)
+        self.assertGreaterEqual(kills, 6)
 
     # ---- in real time
 
