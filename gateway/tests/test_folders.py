@@ -37,8 +37,9 @@ class Folders(Case):
             await it.post(0, 18, "a")
         for path in (self.folder / "data").glob("journal*"):
             path.unlink()
-        async with self.gateway(period=300.0) as it:
+        async with self.gateway(period=NEVER) as it:
             self.assertEqual(it.desk.counts["gateway_adopted_total"], 1)
+        async with self.gateway() as it:
             await it.until(lambda: it.desk.journal.find(1).state == "arrived")
             await it.post(1, 21, "b")
             await it.until(lambda: it.desk.journal.find(2).state == "arrived")
@@ -96,6 +97,7 @@ class Folders(Case):
         with contextlib.closing(sqlite3.connect(data / "journal.db")) as rows:
             rows.executescript(EARLIER)
         async with self.gateway(period=NEVER) as it:
+            await it.until(lambda: it.desk.journal.find(7).state == "accepted")
             states = [(await it.errand(id))["state"] for id in range(1, 8)]
             self.assertEqual(states, ["arrived", "accepted", "accepted", "withdrawn", "accepted", "refused", "accepted"])
             self.assertEqual(it.desk.counts["gateway_posted_again_total"], 2)
