@@ -12,7 +12,7 @@ from test_recovery import NEVER, change, history
 from nashirudder.finding import program
 
 # As an earlier gateway wrote it: kept is 0 where no chapter had the errand's verdict, 1 where one had that and not its end, 2 where one had its end. Errands
-# 2 and 5 were told as arrived and accepted, and no chapter has that; 7 was never posted.
+# 2 and 5 were told as arrived and accepted, and no chapter has that; 7 was never posted. They changed so late that none is old enough to be removed.
 EARLIER = """
 create table errands (
     id integer primary key autoincrement, owner text not null, key text, robot integer not null, cell integer not null,
@@ -24,10 +24,10 @@ create index unsettled on errands (kept) where kept < 2;
 create table facts (name text primary key, value integer not null);
 insert into facts values ('next_chapter', 1);
 insert into errands values
-    (1, 'anyone', 'a', 0, 6, 1, 1, 'accepted', null, null, 1, 1), (2, 'anyone', 'b', 0, 18, 2, 2, 'arrived', null, 9, 1, 1),
-    (3, 'anyone', 'c', 1, 12, 3, null, 'posted', null, null, 0, 1), (4, 'anyone', 'd', 0, 21, 4, 4, 'withdrawn', null, null, 2, 1),
-    (5, 'anyone', 'e', 0, 20, 6, 5, 'accepted', null, null, 0, 1), (6, 'anyone', null, 0, 7, 5, null, 'refused', 'blocked', null, 2, 1),
-    (7, 'anyone', 'g', 1, 19, null, null, 'posted', null, null, 0, 1);
+    (1, 'anyone', 'a', 0, 6, 1, 1, 'accepted', null, null, 1, 4e9), (2, 'anyone', 'b', 0, 18, 2, 2, 'arrived', null, 9, 1, 4e9),
+    (3, 'anyone', 'c', 1, 12, 3, null, 'posted', null, null, 0, 4e9), (4, 'anyone', 'd', 0, 21, 4, 4, 'withdrawn', null, null, 2, 4e9),
+    (5, 'anyone', 'e', 0, 20, 6, 5, 'accepted', null, null, 0, 4e9), (6, 'anyone', null, 0, 7, 5, null, 'refused', 'blocked', null, 2, 4e9),
+    (7, 'anyone', 'g', 1, 19, null, null, 'posted', null, null, 0, 4e9);
 """
 
 
