@@ -12,7 +12,7 @@ from test_recovery import NEVER, change, history
 from nashirudder.finding import program
 
 # As an earlier gateway wrote it: kept is 0 where no chapter had the errand's verdict, 1 where one had that and not its end, 2 where one had its end. Errands
-# 2 and 5 were told as arrived and accepted, and no chapter has that; 7 was never posted.
+# 2 and 5 were told as arrived and accepted, and no chapter has that; 7 was never posted. They changed so late that none is old enough to be removed.
 EARLIER = """
 create table errands (
     id integer primary key autoincrement, owner text not null, key text, robot integer not null, cell integer not null,
@@ -24,10 +24,10 @@ create index unsettled on errands (kept) where kept < 2;
 create table facts (name text primary key, value integer not null);
 insert into facts values ('next_chapter', 1);
 insert into errands values
-    (1, 'anyone', 'a', 0, 6, 1, 1, 'accepted', null, null, 1, 1), (2, 'anyone', 'b', 0, 18, 2, 2, 'arrived', null, 9, 1, 1),
-    (3, 'anyone', 'c', 1, 12, 3, null, 'posted', null, null, 0, 1), (4, 'anyone', 'd', 0, 21, 4, 4, 'withdrawn', null, null, 2, 1),
-    (5, 'anyone', 'e', 0, 20, 6, 5, 'accepted', null, null, 0, 1), (6, 'anyone', null, 0, 7, 5, null, 'refused', 'blocked', null, 2, 1),
-    (7, 'anyone', 'g', 1, 19, null, null, 'posted', null, null, 0, 1);
+    (1, 'anyone', 'a', 0, 6, 1, 1, 'accepted', null, null, 1, 4e9), (2, 'anyone', 'b', 0, 18, 2, 2, 'arrived', null, 9, 1, 4e9),
+    (3, 'anyone', 'c', 1, 12, 3, null, 'posted', null, null, 0, 4e9), (4, 'anyone', 'd', 0, 21, 4, 4, 'withdrawn', null, null, 2, 4e9),
+    (5, 'anyone', 'e', 0, 20, 6, 5, 'accepted', null, null, 0, 4e9), (6, 'anyone', null, 0, 7, 5, null, 'refused', 'blocked', null, 2, 4e9),
+    (7, 'anyone', 'g', 1, 19, null, null, 'posted', null, null, 0, 4e9);
 """
 
 
@@ -37,8 +37,9 @@ class Folders(Case):
             await it.post(0, 18, "a")
         for path in (self.folder / "data").glob("journal*"):
             path.unlink()
-        async with self.gateway(period=300.0) as it:
+        async with self.gateway(period=NEVER) as it:
             self.assertEqual(it.desk.counts["gateway_adopted_total"], 1)
+        async with self.gateway() as it:
             await it.until(lambda: it.desk.journal.find(1).state == "arrived")
             await it.post(1, 21, "b")
             await it.until(lambda: it.desk.journal.find(2).state == "arrived")
@@ -96,6 +97,7 @@ class Folders(Case):
         with contextlib.closing(sqlite3.connect(data / "journal.db")) as rows:
             rows.executescript(EARLIER)
         async with self.gateway(period=NEVER) as it:
+            await it.until(lambda: it.desk.journal.find(7).state == "accepted")
             states = [(await it.errand(id))["state"] for id in range(1, 8)]
             self.assertEqual(states, ["arrived", "accepted", "accepted", "withdrawn", "accepted", "refused", "accepted"])
             self.assertEqual(it.desk.counts["gateway_posted_again_total"], 2)

@@ -53,11 +53,19 @@ class Recovery(Case):
             await it.until(lambda: it.desk.journal.find(ids[0]).state == "arrived")
             told = await it.errand(ids[0])
             self.assertTrue(told["kept"])
-            os.kill(it.desk.fleet.pid, signal.SIGKILL)
-            await it.until(lambda: not it.desk.is_ready)
-            self.assertEqual((await it.post(0, 18, "0-18"))[1], told)      # a key that is known is answered also now
-            self.assertEqual((await it.post(1, 0, "new"))[0], 503)
-            await it.until(lambda: it.desk.is_ready)
+            may_start, start = asyncio.Event(), Site.start
+
+            async def later(site):
+                await may_start.wait()
+                return await start(site)
+
+            with unittest.mock.patch.object(Site, "start", later):
+                os.kill(it.desk.fleet.pid, signal.SIGKILL)
+                await it.until(lambda: not it.desk.is_ready)
+                self.assertEqual((await it.post(0, 18, "0-18"))[1], told)      # a key that is known is answered also now
+                self.assertEqual((await it.post(1, 0, "new"))[0], 503)
+                may_start.set()
+                await it.until(lambda: it.desk.is_ready)
             self.assertEqual((await it.post(0, 18, "0-18"))[1], told)
             await it.until(lambda: all(it.desk.journal.find(id).state == "arrived" for id in ids))
             self.assertEqual(it.desk.counts["gateway_posted_again_total"], 0)
@@ -177,11 +185,12 @@ class Recovery(Case):
         async with self.gateway() as it:
             await it.post(1, 12, "before")
             await it.until(lambda: it.desk.journal.find(1).state == "arrived")
-        async with self.gateway(period=300.0) as it:
+        async with self.gateway(period=NEVER) as it:
             heard = it.desk.journal.heard
             for cell in (18, 21, 3, 7):
                 await it.post(0, cell, f"{cell}")
             self.assertEqual((await it.ask("DELETE", "/errands/4"))[0], 200)
+        async with self.gateway() as it:
             await it.until(lambda: it.desk.journal.find(3).state == "arrived")
             wanted = [await it.errand(id) for id in range(1, 5)]
         change(self.folder, "update errands set state = 'posted', accepted = null, tick = null where id in (2, 3)", f"update facts set value = {heard}",
