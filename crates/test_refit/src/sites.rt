@@ -1,7 +1,8 @@
 //! A small site, and the texts of what its fleet goes on with.
 
+use fleet_history::Chapter;
 use fleet_map::read_map;
-use fleet_refit::{Change, Refit, RefitFault, Site};
+use fleet_refit::{AfterFault, Change, Refit, RefitFault, Site};
 use fleet_trace::{push_opening, read_trace};
 use std::alloc::{Alloc, Global};
 use std::process::Abort;
@@ -48,4 +49,33 @@ pub(crate) fn opening_of(rt: &(impl Alloc<A = Global> + Abort), refit: &Refit) -
     let mut text = String::new(rt.alloc());
     push_opening(rt.alloc(), &mut text, &refit.opening).expect(rt, "memory for a text");
     text
+}
+
+/// A chapter that begins with the opening of that text.
+fn chapter_from(rt: &(impl Alloc<A = Global> + Abort), opening: &str) -> Chapter {
+    let mut text = String::new(rt.alloc());
+    write!(
+        &mut text,
+        "{{\"chapter\":1,\"entries\":[],\"opening\":{opening},\"version\":2}}"
+    )
+    .expect(rt, "memory for a text");
+    read_trace(rt.alloc(), text.as_bytes()).expect(rt, "a trace")
+}
+
+/// The site once its fleet has come to that opening.
+pub(crate) fn after_of(rt: &(impl Alloc<A = Global> + Abort), site: &Site, opening: &str) -> Site {
+    site.after(rt.alloc(), &chapter_from(rt, opening).opening)
+        .expect(rt, "as many robots as move")
+}
+
+/// Why the site does not go on from that opening.
+pub(crate) fn after_fault(
+    rt: &(impl Alloc<A = Global> + Abort),
+    site: &Site,
+    opening: &str,
+) -> Option<AfterFault> {
+    match site.after(rt.alloc(), &chapter_from(rt, opening).opening) {
+        Ok(_site) => None,
+        Err(fault) => Some(fault),
+    }
 }
