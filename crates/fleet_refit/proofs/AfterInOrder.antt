@@ -184,7 +184,8 @@ module _ {A : Type 0} (s : SiteView A) (o : Opening A) (is : IsSiteInOrder s) (l
         let reached : y.number ≤ (slice_index_or s.clients y.client unknown_client).accepted =
         subst (λ (e : Errand). e.number ≤ (slice_index_or s.clients e.client unknown_client).accepted) read ((is.robots q w old.was).numbered j y within).1 in
         let client : (slice_index_or s.clients x.client unknown_client).accepted ≡ (slice_index_or s.clients y.client unknown_client).accepted = ap (λ c. (slice_index_or s.clients c unknown_client).accepted) same in
-        omega (arith, above, reached, client, number)
+        let over : (slice_index_or s.clients x.client unknown_client).accepted < x.number = above in
+        omega (arith, over, reached, client, number)
   ]
 
   new-errand : (r i : ℕ) (e : Errand) (w : Seat A) (new : IsNew 0 s.seats o.robots r w) → slice_get w.robot.errands i ≡ Some e → slice_get (errands_at o new.index) i ≡ Some e

@@ -5,10 +5,11 @@ use Rattle.fleet_grid.specs.Floor.{floor_of}
 use Rattle.fleet_history.specs.declared.history.Opening.{Opening}
 use Rattle.fleet_history.specs.declared.history.RobotState.{RobotState}
 use Rattle.fleet_refit.specs.declared.seat.Seat.{Seat}
-use Rattle.fleet_refit.specs.After.{AreTheMoving, DoOthersStay, after_site, moving_count}
+use Rattle.fleet_refit.specs.After.{AreTheMoving, DoOthersStay, IsAfter, after_site, moving_count}
 use Rattle.fleet_refit.specs.Map.{plan_map}
 use Rattle.fleet_refit.specs.Opening.{moving_numbers, opening_of}
 use Rattle.fleet_refit.specs.Site.{SiteView, moving}
+use Rattle.fleet_refit.proofs.AfterInOrder.{after-in_order}
 use Rattle.fleet_refit.proofs.SeatsAfter.{after-numbers, after-robots, after-walls}
 use Rattle.fleet_refit.proofs.SeatsWhere.{at-number, at-other}
 
@@ -16,20 +17,31 @@ use Rattle.fleet_refit.proofs.SeatsWhere.{at-number, at-other}
 abbrev with_robots : {A : Type 0} → Opening A → List (RobotState A) → Opening A
 with_robots o robots = record { tick = o.tick; queue = o.queue; life = o.life; clients = o.clients; robots = robots }
 
-pub same-opening : {A : Type 0} (s t : SiteView A) (o : Opening A) → t ≡ after_site s o → moving_count s.seats ≡ length o.robots → opening_of t ≡ o
+same-opening : {A : Type 0} (s t : SiteView A) (o : Opening A) → t ≡ after_site s o → moving_count s.seats ≡ length o.robots → opening_of t ≡ o
 same-opening {A} s t o is many = ap opening_of is ∙ ap (with_robots o) (after-robots s.seats o.robots many)
 
-pub same-numbers : {A : Type 0} (s t : SiteView A) (o : Opening A) → t ≡ after_site s o → moving_numbers t.seats ≡ moving_numbers s.seats
+same-numbers : {A : Type 0} (s t : SiteView A) (o : Opening A) → t ≡ after_site s o → moving_numbers t.seats ≡ moving_numbers s.seats
 same-numbers {A} s t o is = ap (λ (u : SiteView A). moving_numbers u.seats) is ∙ after-numbers 0 s.seats o.robots
 
-pub same-plan : {A : Type 0} (s t : SiteView A) (o : Opening A) → t ≡ after_site s o → plan_map t ≡ plan_map s
+same-plan : {A : Type 0} (s t : SiteView A) (o : Opening A) → t ≡ after_site s o → plan_map t ≡ plan_map s
 same-plan s t o is = ap plan_map is ∙ ap (λ l. floor_of s.map.height s.map.width l) (after-walls s.map.letters s.seats o.robots)
 
-pub the-moving : {A : Type 0} (s t : SiteView A) (o : Opening A) → t ≡ after_site s o → AreTheMoving s o t
+the-moving : {A : Type 0} (s t : SiteView A) (o : Opening A) → t ≡ after_site s o → AreTheMoving s o t
 the-moving {A} s t o is k number z numbered at =
     let (r, same, there) = at-number 0 s.seats o.robots k number z numbered at in
     let one : number ≡ r = omega (arith, same) in
     subst (λ (u : SiteView A). slice_get u.seats number ≡ Some (moving z)) (sym is) (subst (λ n. slice_get (after_site s o).seats n ≡ Some (moving z)) (sym one) there)
 
-pub the-others : {A : Type 0} (s t : SiteView A) (o : Opening A) → t ≡ after_site s o → DoOthersStay s t
+the-others : {A : Type 0} (s t : SiteView A) (o : Opening A) → t ≡ after_site s o → DoOthersStay s t
 the-others {A} s t o is number x was stays = subst (λ (u : SiteView A). slice_get u.seats number ≡ Some x) (sym is) (at-other s.seats o.robots number x was stays)
+
+pub is-after : {A : Type 0} (s t : SiteView A) (o : Opening A) → t ≡ after_site s o → moving_count s.seats ≡ length o.robots → IsAfter s o t
+is-after s t o is many = record {
+  site = is;
+  opening = same-opening s t o is many;
+  numbers = same-numbers s t o is;
+  the_moving = the-moving s t o is;
+  others = the-others s t o is;
+  map = same-plan s t o is;
+  in_order = after-in_order s t o is;
+}

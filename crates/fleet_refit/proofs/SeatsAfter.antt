@@ -36,10 +36,11 @@ none-moves {A} seats r x none at = elim (cases_Bool (is_moving x.standing)) [
 -- where the loop is: what is left makes the list whole
 pub record IsLeft {A : Type 0} (seats : List (Seat A)) (robots : List (RobotState A)) (place next : ℕ) (done : List (Seat A)) : Type 0 where
   pub count : moving_count (drop place seats) + next ≡ length robots
+  pub behind : next ≤ place
   pub whole : done ++ seats_after (drop place seats) (drop next robots) ≡ seats_after seats robots
 
 pub left-all : {A : Type 0} (seats : List (Seat A)) (robots : List (RobotState A)) → moving_count seats ≡ length robots → IsLeft seats robots 0 0 []
-left-all seats robots many = record { count = omega (arith, many); whole = refl }
+left-all seats robots many = record { count = omega (arith, many); behind = omega arith; whole = refl }
 
 here : {X : Type 0} (xs : List X) (i : ℕ) (x : X) → i < length xs → x ≡ get_or xs i x → drop i xs ≡ x ∷ drop (i + 1) xs
 here xs i x inside at = drop_more xs i x inside ∙ ap (λ y. y ∷ drop (i + 1) xs) (sym at)
@@ -69,6 +70,7 @@ left-moving seats robots place next done x z left inside at moves from =
     ap (λ l. seats_after l (drop next robots)) (here seats place x inside at) ∙ ap (λ l. seats_after (x ∷ rest) l) more ∙ moving-on x rest z (drop (next + 1) robots) moves in
     record {
       count = omega (arith, left.count, ap moving_count (here seats place x inside at), count-true x rest moves);
+      behind = omega (arith, left.behind);
       whole = append_assoc done (moving z ∷ []) (seats_after rest (drop (next + 1) robots)) ∙ ap (λ l. done ++ l) (sym step) ∙ left.whole;
     }
 
@@ -80,6 +82,7 @@ left-other seats robots place next done x left inside at stays =
     ap (λ l. seats_after l (drop next robots)) (here seats place x inside at) ∙ other-on x rest (drop next robots) stays in
     record {
       count = omega (arith, left.count, ap moving_count (here seats place x inside at), count-false x rest stays);
+      behind = omega (arith, left.behind);
       whole = append_assoc done (x ∷ []) (seats_after rest (drop next robots)) ∙ ap (λ l. done ++ l) (sym step) ∙ left.whole;
     }
 

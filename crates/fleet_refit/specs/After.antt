@@ -3,11 +3,12 @@ use Rattle.std.specs.Prelude.{◌≡◌, ◌≢◌, ℕ, List, [], ◌∷◌, So
 use Rattle.fleet_history.specs.declared.history.Opening.{Opening}
 use Rattle.fleet_history.specs.declared.history.RobotState.{RobotState}
 use Rattle.fleet_history.specs.History.{History}
-use Rattle.fleet_history.specs.Legal.{IsLegal}
+use Rattle.fleet_history.specs.Legal.{IsInOrder, IsLegal}
 use Rattle.fleet_history.specs.Next.{next_opening}
 use Rattle.fleet_refit.specs.declared.after.AfterFault.{AfterFault}
 use Rattle.fleet_refit.specs.declared.after.AfterFault.TheVariants as fault
 use Rattle.fleet_refit.specs.declared.seat.Seat.{Seat}
+use Rattle.fleet_refit.specs.InOrder.{IsSiteInOrder}
 use Rattle.fleet_refit.specs.Map.{plan_map}
 use Rattle.fleet_refit.specs.Opening.{moving_numbers, opening_of}
 use Rattle.fleet_refit.specs.Site.{SiteView, is_moving, moving}
@@ -40,6 +41,16 @@ pub record IsPlayed {A : Type 0} (s : SiteView A) (o : Opening A) : Type 0 where
   pub legal : IsLegal (plan_map s) history
   pub begins : history.opening ≡ opening_of s
   pub ends : o ≡ next_opening history
+
+-- all that is said of the site after it
+pub record IsAfter {A : Type 0} (s : SiteView A) (o : Opening A) (t : SiteView A) : Type 0 where
+  pub site : t ≡ after_site s o
+  pub opening : opening_of t ≡ o
+  pub numbers : moving_numbers t.seats ≡ moving_numbers s.seats
+  pub the_moving : AreTheMoving s o t
+  pub others : DoOthersStay s t
+  pub map : plan_map t ≡ plan_map s
+  pub in_order : IsSiteInOrder s → IsPlayed s o → IsInOrder (plan_map s) o → IsSiteInOrder t
 
 -- why a site cannot go on from an opening, out of memory apart: it has not as many robots as move
 abbrev pub IsUnlike : {A : Type 0} → SiteView A → Opening A → AfterFault → Type 0

@@ -2,7 +2,7 @@
 
 ghost use Rattle.std.specs.Prelude.{◌≡◌, IfErr, IfOk, length};
 ghost use Rattle.fleet_history.specs.Legal.{IsInOrder};
-ghost use Rattle.fleet_refit.specs.After.{AreTheMoving, DoOthersStay, IsPlayed, IsUnlike, after_site, moving_count, seats_after};
+ghost use Rattle.fleet_refit.specs.After.{AreTheMoving, DoOthersStay, IsAfter, IsPlayed, IsUnlike, after_site, moving_count, seats_after};
 ghost use Rattle.fleet_refit.specs.InOrder.{IsSiteInOrder};
 ghost use Rattle.fleet_refit.specs.Map.{plan_map};
 ghost use Rattle.fleet_refit.specs.Opening.{moving_numbers, opening_of};
@@ -48,7 +48,8 @@ fn seats_after<A: Allocator + Copy>(
     robots: &[RobotState<A>],
 ) -> Result<Vec<Seat<A>, A>, AllocError>
     requires { moving_count seats.now ≡ length robots.now }
-    ensures { IfOk result (λ after. after.items ≡ seats_after seats.now robots.now) }
+    ensures exact { IfOk result (λ after. after.items ≡ seats_after seats.now robots.now) }
+    ensures length { IfOk result (λ after. length after.items ≡ length seats.now) }
 {
     let mut after = Vec::with_capacity(alloc, seats.len())?;
     let mut next = 0;
@@ -65,8 +66,8 @@ fn seats_after<A: Allocator + Copy>(
 }
 
 impl<A: Allocator + Copy> Site<A> {
-    /// The site once its fleet has come to that opening.
-    fn gone_on(&self, alloc: A, opening: &Opening<A>) -> Result<Site<A>, AllocError>
+    /// The site with what the opening says.
+    fn with_opening(&self, alloc: A, opening: &Opening<A>) -> Result<Site<A>, AllocError>
         requires { moving_count self.now.seats ≡ length opening.now.robots }
         ensures { IfOk result (λ site. site ≡ after_site self.now opening.now) }
     {
@@ -81,6 +82,14 @@ impl<A: Allocator + Copy> Site<A> {
             clients,
             seats,
         })
+    }
+
+    /// The site once its fleet has come to that opening.
+    fn gone_on(&self, alloc: A, opening: &Opening<A>) -> Result<Site<A>, AllocError>
+        requires { moving_count self.now.seats ≡ length opening.now.robots }
+        ensures { IfOk result (IsAfter self.now opening.now) }
+    {
+        self.with_opening(alloc, opening)
     }
 
     /// The site at the end of a chapter that its fleet played: the robots that move are as the opening of the next chapter
