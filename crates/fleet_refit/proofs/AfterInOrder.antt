@@ -49,6 +49,9 @@ opening-errands (y ∷ ys) (suc k) z at = opening-errands ys k z at
 
 -- ---- what is known of a robot that is as it was
 
+at-most : (a b c : ℕ) → a ≤ b → b ≤ c → a ≤ c
+at-most a b c f g = omega (arith, f, g)
+
 known-later : {A : Type 0} (o p : Opening A) (x : RobotState A) → IsLater o p → IsKnown o.tick o.queue o.clients x → IsKnown p.tick p.queue p.clients x
 known-later o p x later is = record {
   arrival_law = is.arrival_law;
@@ -57,11 +60,11 @@ known-later o p x later is = record {
   not_longer = λ w e. omega (arith, is.not_longer w e, later.tick);
   room = omega (arith, is.room, later.queue);
   known = λ k d l. omega (arith, is.known k d l, later.clients);
-  numbered = λ k d l. let n = is.numbered k d l in let m = later.more (get_or x.errands k d).client (is.known k d l) in (n.0, omega (arith, n.1, m));
+  numbered = λ k d l. let n = is.numbered k d l in (n.0, at-most _ _ _ n.1 (later.more (get_or x.errands k d).client (is.known k d l)));
 }
 
-one-number : {xs : List ℕ} (k l r q : ℕ) → k ≡ l → slice_get xs k ≡ Some (0 + r) → slice_get xs l ≡ Some (0 + q) → r ≡ q
-one-number {xs} k l r q same one two =
+one-number : (xs : List ℕ) (k l r q : ℕ) → k ≡ l → slice_get xs k ≡ Some (0 + r) → slice_get xs l ≡ Some (0 + q) → r ≡ q
+one-number xs k l r q same one two =
     let n : 0 + r ≡ 0 + q = same-at xs k (0 + r) (0 + q) one (subst (λ j. slice_get xs j ≡ Some (0 + q)) (sym same) two) in
     omega (arith, n)
 
@@ -114,7 +117,7 @@ module _ {A : Type 0} (s : SiteView A) (o : Opening A) (is : IsSiteInOrder s) (l
       | inl new ↦ elim (found q y second) [
         | inl other ↦
             let cell : new.robot.cell ≡ other.robot.cell = sym (ap (λ (w : Seat A). w.robot.cell) new.is) ∙ same ∙ ap (λ (w : Seat A). w.robot.cell) other.is in
-            one-number new.index other.index r q (one-cell new.index other.index new.robot other.robot new.at other.at cell) new.number other.number
+            one-number _ new.index other.index r q (one-cell new.index other.index new.robot other.robot new.at other.at cell) new.number other.number
         | inr old ↦ absurd (apart-from r q x y new old two same)
       ]
       | inr old ↦ elim (found q y second) [
@@ -200,7 +203,7 @@ module _ {A : Type 0} (s : SiteView A) (o : Opening A) (is : IsSiteInOrder s) (l
           | inl new ↦ elim (found q v here) [
             | inl other ↦
                 let index = on.names.apart new.index other.index i j x y (new-errand r i x w new one) (new-errand q j y v other two) same number in
-                one-number new.index other.index r q index new.number other.number
+                one-number _ new.index other.index r q index new.number other.number
             | inr old ↦ absurd (never-both new.index q i j x y v (new-errand r i x w new one) old two same number)
           ]
           | inr old ↦ elim (found q v here) [

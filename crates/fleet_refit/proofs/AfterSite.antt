@@ -1,7 +1,7 @@
 -- A site once its fleet has played a chapter, and what its fleet goes on with.
-use Rattle.std.proofs.Common.{◌≡◌, ◌∙◌, ◌+◌, ap, arith, subst, sym, length}
+use Rattle.std.proofs.Common.{◌≡◌, ◌∙◌, ℕ, ap, arith, subst, sym, length}
 use Rattle.std.specs.Prelude.{List, Some, slice_get}
-use Rattle.fleet_grid.specs.Floor.{floor_of}
+use Rattle.fleet_grid.specs.Floor.{HasForm, floor_of}
 use Rattle.fleet_history.specs.declared.history.Opening.{Opening}
 use Rattle.fleet_history.specs.declared.history.RobotState.{RobotState}
 use Rattle.fleet_refit.specs.declared.seat.Seat.{Seat}
@@ -45,3 +45,8 @@ is-after s t o is many = record {
   map = same-plan s t o is;
   in_order = after-in_order s t o is;
 }
+
+-- a copy of a map has its form
+pub same-form : (h w h2 w2 : ℕ) (l l2 : List ℕ) → h2 ≡ h → w2 ≡ w → l2 ≡ l → HasForm (floor_of h w l) → HasForm (floor_of h2 w2 l2)
+same-form h w h2 w2 l l2 tall wide same form =
+    subst (λ n. HasForm (floor_of n w2 l2)) (sym tall) (subst (λ n. HasForm (floor_of h n l2)) (sym wide) (subst (λ k. HasForm (floor_of h w k)) (sym same) form))

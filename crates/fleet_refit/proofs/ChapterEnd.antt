@@ -1,6 +1,6 @@
 -- What the state at the end of a legal chapter has to do with the one that it began with.
-use Rattle.std.proofs.Common.{◌≡◌, ◌∙◌, ◌+◌, ◌<◌, ◌≤◌, ◌⊎◌, ℕ, zero, suc, List, [], ◌∷◌, ◌++◌, Some, Bool, true, false, not, ap, arith, inl, inr, refl, subst, sym, length, cond, eqb, get_or}
-use Rattle.std.specs.Prelude.{All, count_by, map, slice_get, slice_index_or, ◌==◌}
+use Rattle.std.proofs.Common.{◌≡◌, ◌∙◌, ◌+◌, ◌<◌, ◌≤◌, ◌⊎◌, ℕ, List, [], ◌∷◌, Some, not, ap, arith, inl, inr, refl, subst, sym, length, add-zero, cond, eqb}
+use Rattle.std.specs.Prelude.{All, map, slice_get, slice_index_or}
 use Rattle.std.proofs.lemmas.Bool.{cases_Bool, cases_lt, cond_both}
 use Rattle.std.proofs.lemmas.List.{append-nil, get_or_past, length-map}
 use Rattle.std.proofs.lemmas.List.Elements.{All-append, All-drop, All-filter, All-nil}
@@ -11,22 +11,21 @@ use Rattle.fleet_book.specs.declared.order.Order.{Order}
 use Rattle.fleet_book.specs.declared.order.Order.TheVariants.{Go, Close, Withdraw}
 use Rattle.fleet_book.specs.declared.verdict.Verdict.{Verdict}
 use Rattle.fleet_book.specs.declared.verdict.Verdict.TheVariants as verdict
-use Rattle.fleet_history.specs.declared.history.Arrival.{Arrival}
 use Rattle.fleet_history.specs.declared.history.ClientState.{ClientState}
 use Rattle.fleet_history.specs.declared.history.Entry.{Entry}
 use Rattle.fleet_history.specs.declared.history.Entry.TheVariants.{Take, Tick, Shut}
 use Rattle.fleet_history.specs.declared.history.Opening.{Opening}
 use Rattle.fleet_history.specs.declared.history.RobotState.{RobotState}
-use Rattle.fleet_history.specs.History.{History, start, after, robots, clients, client_at, taken_count, accepted_count, accepts, is_withdrawn, joined, accepted, arrivals, errand_for, errands_at, unfinished, unknown_client, owed}
+use Rattle.fleet_history.specs.History.{History, start, after, robots, client_at, taken_count, accepted_count, accepts, is_withdrawn, joined, accepted, arrivals, errand_for, errands_at, unfinished, unknown_client, owed}
 use Rattle.fleet_history.specs.Legal.{IsLegal, opened, grown, owed_at}
 use Rattle.fleet_history.specs.Next.{next_opening}
-use Rattle.fleet_history.specs.Notices.{client_after, noticed_count}
+use Rattle.fleet_history.specs.Notices.{noticed_count}
 use Rattle.fleet_history.specs.Verdicts.{IsVerdict}
 use Rattle.fleet_history.proofs.After.{accepted_count-after, joined-after, noticed_count-after, taken_count-after}
 use Rattle.fleet_history.proofs.Legal.{All-single}
 use Rattle.fleet_history.proofs.Next.{next-client, next-clients, next-errands, next-owed, next-robots, owed-start}
-use Rattle.fleet_history.proofs.Numbers.{All-slice_get, slice_get_front, verdict-number}
-use Rattle.fleet_history.proofs.Owed.{owed_less, owed_more, owed-after_shut, owed-after_take, owed-after_tick}
+use Rattle.fleet_history.proofs.Numbers.{All-slice_get, verdict-number}
+use Rattle.fleet_history.proofs.Owed.{owed_more, owed-after_shut, owed-after_take, owed-after_tick}
 use Rattle.fleet_refit.specs.After.{IsPlayed}
 use Rattle.fleet_refit.specs.Map.{plan_map}
 use Rattle.fleet_refit.specs.Opening.{opening_of}
@@ -51,31 +50,40 @@ pub record IsLater {A : Type 0} (o p : Opening A) : Type 0 where
 -- ---- counts
 
 -- what a verdict makes is accepted
-more-accepts : {A : Type 0} (c client : ℕ) (order : Order) (v : Verdict) → owed_more c client order v ≤ cond (accepts {A = A} c (Take client order v)) 1 0
-more-accepts c client (Go robot cell) (verdict.Accepted n) = elim (cases_Bool (eqb client c)) [ inl e ↦ rw (e) (omega arith) | inr e ↦ rw (e) (omega arith) ]
-more-accepts c client order v = omega arith
+more-accepts : (A : Type 0) (c client : ℕ) (order : Order) (v : Verdict) → owed_more c client order v ≤ cond (accepts {A = A} c (Take client order v)) 1 0
+more-accepts A c client (Go robot cell) (verdict.Accepted n) = elim (cases_Bool (eqb client c)) [ inl e ↦ rw (e) (omega arith) | inr e ↦ rw (e) (omega arith) ]
+more-accepts A c client order v = omega arith
 
 -- as the counts are, so many more may be told
 abbrev pub Slack : {A : Type 0} → History A → ℕ → Type 0
 Slack h c = noticed_count h c + owed h c + ((client_at h c).taken + (client_at h c).accepted) ≤ taken_count h c + accepted_count h c + ((client_at h c).noticed + owed_at h.opening c)
 
+-- nothing happened
+slack-start : (n o t a first : ℕ) → o ≡ first → (n + 0) + o + (t + a) ≤ (t + 0) + (a + 0) + (n + first)
+slack-start n o t a first is = omega (arith, is)
+
+-- an order is taken
+slack-take : (n o t a n2 o2 t2 a2 base limit one less more acc : ℕ) → n + o + base ≤ t + a + limit → t2 ≡ t + one → a2 ≡ a + acc → n2 ≡ n + one → o2 + less ≡ o + more → more ≤ acc → n2 + o2 + base ≤ t2 + a2 + limit
+slack-take n o t a n2 o2 t2 a2 base limit one less more acc before et ea en eo few = omega (arith, before, et, ea, en, eo, few)
+
+-- errands arrive, or nothing changes
+slack-tick : (n o t a n2 o2 t2 a2 base limit k : ℕ) → n + o + base ≤ t + a + limit → t2 ≡ t + 0 → a2 ≡ a + 0 → n2 ≡ n + k → o2 + k ≡ o → n2 + o2 + base ≤ t2 + a2 + limit
+slack-tick n o t a n2 o2 t2 a2 base limit k before et ea en eo = omega (arith, before, et, ea, en, eo)
+
 pub slack : {A : Type 0} (m : Floor) (h : History A) (c : ℕ) → IsLegal m h → Slack h c
-slack m h c (opened {o} i) = omega (arith, owed-start o c)
+slack m h c (opened {o} i) = slack-start (client_of o c).noticed (owed (start o) c) (client_of o c).taken (client_of o c).accepted (owed_at o c) (owed-start o c)
 slack {A} m g c (grown {h} (Take client order v) legal f same) =
     subst (λ (k : History A). Slack k c) (sym same)
     (let e : Entry A = Take client order v in
-    let before = slack m h c legal in
-    omega (arith, before, taken_count-after h c e, accepted_count-after h c e, noticed_count-after h c e, owed-after_take m h c client order v legal f.1, more-accepts {A = A} c client order v))
+    slack-take _ _ _ _ _ _ _ _ _ _ _ _ _ _ (slack m h c legal) (taken_count-after h c e) (accepted_count-after h c e) (noticed_count-after h c e) (owed-after_take m h c client order v legal f.1) (more-accepts A c client order v))
 slack {A} m g c (grown {h} (Tick to arrived farewells) legal f same) =
     subst (λ (k : History A). Slack k c) (sym same)
     (let e : Entry A = Tick to arrived farewells in
-    let before = slack m h c legal in
-    omega (arith, before, taken_count-after h c e, accepted_count-after h c e, noticed_count-after h c e, owed-after_tick h c to arrived farewells f.shows))
+    slack-tick _ _ _ _ _ _ _ _ _ _ _ (slack m h c legal) (taken_count-after h c e) (accepted_count-after h c e) (noticed_count-after h c e) (owed-after_tick h c to arrived farewells f.shows))
 slack {A} m g c (grown {h} (Shut robot farewell) legal f same) =
     subst (λ (k : History A). Slack k c) (sym same)
     (let e : Entry A = Shut robot farewell in
-    let before = slack m h c legal in
-    omega (arith, before, taken_count-after h c e, accepted_count-after h c e, noticed_count-after h c e, owed-after_shut h c robot farewell))
+    slack-tick _ _ _ _ _ _ _ _ _ _ 0 (slack m h c legal) (taken_count-after h c e) (accepted_count-after h c e) (noticed_count-after h c e) (add-zero (owed (after h e) c) ∙ owed-after_shut h c robot farewell))
 
 -- ---- names
 

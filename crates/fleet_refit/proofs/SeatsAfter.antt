@@ -110,7 +110,7 @@ robots-false x xs e = rw (e) refl
 pub counted : {A : Type 0} (seats : List (Seat A)) → length (moving_robots seats) ≡ moving_count seats
 counted [] = refl
 counted (x ∷ xs) = elim (cases_Bool (is_moving x.standing)) [
-  | inl e ↦ ap length (robots-true x xs e) ∙ ap suc (counted xs) ∙ sym (count-true x xs e)
+  | inl e ↦ let all = ap length (robots-true x xs e) in let rest = counted xs in let n = count-true x xs e in omega (arith, all, rest, n)
   | inr e ↦ ap length (robots-false x xs e) ∙ counted xs ∙ sym (count-false x xs e)
 ]
 
