@@ -1,16 +1,15 @@
 -- A site in order is in order once its fleet has played a chapter.
-use Rattle.std.proofs.Common.{◌≡◌, ◌∙◌, ◌+◌, ◌<◌, ◌≤◌, ◌⊎◌, ℕ, zero, suc, List, [], ◌∷◌, Some, Bool, true, false, ap, arith, inl, inr, refl, subst, sym, length, get_or}
-use Rattle.std.specs.Prelude.{All, count_by, map, slice_get, slice_index, slice_index_or, sum_by, ◌==◌}
+use Rattle.std.proofs.Common.{◌≡◌, ◌∙◌, ◌+◌, ◌<◌, ◌≤◌, ◌⊎◌, ℕ, zero, suc, List, [], ◌∷◌, Some, true, false, ap, arith, inl, inr, refl, subst, sym, length, get_or}
+use Rattle.std.specs.Prelude.{map, slice_get, slice_index, slice_index_or}
 use Rattle.std.proofs.lemmas.Bool.{cases_eq, cases_lt}
 use Rattle.std.proofs.lemmas.List.{length-map}
 use Rattle.std.proofs.lemmas.Option.{get_or_from_slice_get, slice_get_within}
-use Rattle.fleet_grid.specs.Floor.{Floor, IsFloor}
+use Rattle.fleet_grid.specs.Floor.{IsFloor}
 use Rattle.fleet_queue.specs.declared.errand.Errand.{Errand}
-use Rattle.fleet_history.specs.declared.history.ClientState.{ClientState}
 use Rattle.fleet_history.specs.declared.history.Opening.{Opening}
 use Rattle.fleet_history.specs.declared.history.RobotState.{RobotState}
 use Rattle.fleet_history.specs.History.{errands_at, unknown_client}
-use Rattle.fleet_history.specs.Legal.{AreNamesInOrder, IsClientInOrder, IsInOrder, owed_at}
+use Rattle.fleet_history.specs.Legal.{AreNamesInOrder, IsClientInOrder, IsInOrder}
 use Rattle.fleet_history.proofs.Legal.{unknown_robot}
 use Rattle.fleet_refit.specs.declared.seat.Seat.{Seat}
 use Rattle.fleet_refit.specs.declared.seat.Standing.{Standing}
@@ -18,10 +17,10 @@ use Rattle.fleet_refit.specs.declared.seat.Standing.TheVariants as standing
 use Rattle.fleet_refit.specs.After.{IsPlayed, after_site, moving_count, seats_after}
 use Rattle.fleet_refit.specs.InOrder.{AreStanding, IsKnown, IsSiteInOrder, errands_of, everyone, open_of}
 use Rattle.fleet_refit.specs.Map.{plan_map}
-use Rattle.fleet_refit.specs.Opening.{moving_numbers, opening_of}
+use Rattle.fleet_refit.specs.Opening.{opening_of}
 use Rattle.fleet_refit.specs.Site.{SiteView, is_gone, is_held, is_moving}
 use Rattle.fleet_refit.proofs.ChapterEnd.{IsLater, played-later}
-use Rattle.fleet_refit.proofs.Counting.{nth, owing}
+use Rattle.fleet_refit.proofs.Counting.{nth}
 use Rattle.fleet_refit.proofs.First.{cell-placed}
 use Rattle.fleet_refit.proofs.Movers.{origin, robot-errands, seat-errands}
 use Rattle.fleet_refit.proofs.Places.{same-at}

@@ -4,7 +4,6 @@ use Rattle.std.specs.Prelude.{List, Some, slice_get}
 use Rattle.fleet_grid.specs.Floor.{HasForm, floor_of}
 use Rattle.fleet_history.specs.declared.history.Opening.{Opening}
 use Rattle.fleet_history.specs.declared.history.RobotState.{RobotState}
-use Rattle.fleet_refit.specs.declared.seat.Seat.{Seat}
 use Rattle.fleet_refit.specs.After.{AreTheMoving, DoOthersStay, IsAfter, after_site, moving_count}
 use Rattle.fleet_refit.specs.Map.{plan_map}
 use Rattle.fleet_refit.specs.Opening.{moving_numbers, opening_of}

@@ -1,5 +1,5 @@
 -- What the state at the end of a legal chapter has to do with the one that it began with.
-use Rattle.std.proofs.Common.{◌≡◌, ◌∙◌, ◌+◌, ◌<◌, ◌≤◌, ◌⊎◌, ℕ, List, [], ◌∷◌, Some, not, ap, arith, inl, inr, refl, subst, sym, length, add-zero, cond, eqb}
+use Rattle.std.proofs.Common.{◌≡◌, ◌∙◌, ◌+◌, ◌<◌, ◌≤◌, ◌⊎◌, ℕ, [], ◌∷◌, Some, not, ap, arith, inl, inr, refl, subst, sym, length, add-zero, cond, eqb}
 use Rattle.std.specs.Prelude.{All, map, slice_get, slice_index_or}
 use Rattle.std.proofs.lemmas.Bool.{cases_Bool, cases_lt, cond_both}
 use Rattle.std.proofs.lemmas.List.{append-nil, get_or_past, length-map}

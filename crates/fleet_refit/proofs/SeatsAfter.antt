@@ -1,10 +1,9 @@
 -- Robots of which those that move become others.
-use Rattle.std.proofs.Common.{◌≡◌, ◌∙◌, ◌+◌, ◌<◌, ◌≤◌, ◌⊎◌, ℕ, zero, suc, List, [], ◌∷◌, ◌++◌, Some, Bool, true, false, ap, arith, inl, inr, refl, subst, sym, drop, length, cond, get_or, zero-add}
+use Rattle.std.proofs.Common.{◌≡◌, ◌∙◌, ◌+◌, ◌<◌, ◌≤◌, ℕ, suc, List, [], ◌∷◌, ◌++◌, Some, true, false, ap, arith, inl, inr, refl, sym, drop, length, cond, get_or, zero-add}
 use Rattle.std.specs.Prelude.{map, count_by, sum_by, slice_get, slice_set, ◌==◌, if◌then◌else◌}
 use Rattle.std.proofs.lemmas.Bool.{cases_Bool}
 use Rattle.std.proofs.lemmas.List.{append-nil, append_assoc, drop_more, drop_all}
 use Rattle.std.proofs.lemmas.List.Sums.{sum_by-cons}
-use Rattle.fleet_queue.specs.declared.errand.Errand.{Errand}
 use Rattle.fleet_history.specs.declared.history.RobotState.{RobotState}
 use Rattle.fleet_history.proofs.Sums.{count_at, count_cons}
 use Rattle.fleet_refit.specs.declared.seat.Seat.{Seat}

@@ -1,6 +1,6 @@
 -- One robot more.
-use Rattle.std.proofs.Common.{◌≡◌, ◌∙◌, ◌+◌, ◌++◌, ◌∷◌, [], ap, length, subst, sym}
-use Rattle.fleet_refit.specs.Site.{is_moving, moving}
+use Rattle.std.proofs.Common.{◌∙◌, ◌+◌, ◌++◌, ◌∷◌, [], ap, length, subst, sym}
+use Rattle.fleet_refit.specs.Site.{is_moving}
 use Rattle.fleet_refit.proofs.SeatsAfter.{IsLeft, after-length, left-all, left-moving, left-none, left-other, next-inside}
 use Rattle.fleet_refit.proofs.after.seats_after.Goals as goal
 use Rattle.fleet_refit.proofs.after.seats_after.Goals.{then-is_moving+in_ok-moving+in_ok-push, else-is_moving+in_ok-copied_seat+in_ok-push-2}

@@ -1,5 +1,5 @@
 -- Neither the map's form nor the number of robots changes.
-use Rattle.std.proofs.Common.{◌≡◌, ◌≤◌, ap, arith, length}
+use Rattle.std.proofs.Common.{ap, arith, length}
 use Rattle.fleet_refit.proofs.AfterSite.{same-form}
 use Rattle.fleet_refit.proofs.site.Site.with_opening.Goals as goal
 
