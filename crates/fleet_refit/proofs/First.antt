@@ -30,7 +30,7 @@ seat-robot {A} (z ∷ robots) zero x at = let same : moving z ≡ x = cc in ap (
 seat-robot (z ∷ robots) (suc r) x at = seat-robot robots r x at
 
 -- its cell is the robot's in the placement
-cell-placed : {A : Type 0} (robots : List (RobotState A)) (r : ℕ) (z : RobotState A) → slice_get robots r ≡ Some z → slice_index (map (λ (y : RobotState A). y.cell) robots) r ≡ z.cell
+pub cell-placed : {A : Type 0} (robots : List (RobotState A)) (r : ℕ) (z : RobotState A) → slice_get robots r ≡ Some z → slice_index (map (λ (y : RobotState A). y.cell) robots) r ≡ z.cell
 cell-placed {A} robots r z at =
     get_or-map (λ (y : RobotState A). y.cell) robots r unknown_robot 0 (slice_get_within robots r z at) ∙ ap (λ (y : RobotState A). y.cell) (get_or_from_slice_get robots r z unknown_robot at)
 

@@ -1,5 +1,8 @@
+pub mod AfterInOrder
+pub mod AfterSite
 pub mod Cancelled
 pub mod Chained
+pub mod ChapterEnd
 pub mod Counting
 pub mod First
 pub mod Losing
@@ -12,6 +15,8 @@ pub mod Places
 pub mod Refitted
 pub mod Replaced
 pub mod Seats
+pub mod SeatsAfter
+pub mod SeatsWhere
 pub mod Settling
 pub mod Shorter
 pub mod Sifted

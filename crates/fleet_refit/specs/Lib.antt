@@ -1,4 +1,5 @@
 pub mod Account
+pub mod After
 pub mod Changed
 pub mod Fault
 pub mod InOrder

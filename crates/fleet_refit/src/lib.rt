@@ -1,6 +1,7 @@
 //! A site that changes between two chapters of its fleet: walls, robots and errands.
 #![tactic(auto)]
 
+mod after;
 mod change;
 mod changing;
 mod copying;
@@ -14,6 +15,7 @@ mod seat;
 mod sifting;
 mod site;
 
+pub use after::AfterFault;
 pub use change::{Change, ChangeFault, Dropped};
 pub use refit::{Refit, RefitFault};
 pub use seat::{Seat, Standing};

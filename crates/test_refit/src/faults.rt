@@ -1,8 +1,16 @@
 //! Changes that cannot be made.
 
-use crate::sites::{fault_of, site};
+use crate::sites::{after_fault, fault_of, refit_of, site};
 use fleet_hooks::StampLaw;
-use fleet_refit::{Change, ChangeFault, RefitFault};
+use fleet_refit::{AfterFault, Change, ChangeFault, RefitFault};
+
+/// An opening of two robots.
+const TWO: &str =
+    "{\"clients\":[[3,3,3,false]],\"life\":100,\"queue\":4,\"robots\":[[0,false,null,[],[0,0],[0,0]],[2,false,null,[],[0,0],[0,0]]],\"tick\":7}";
+
+/// An opening of three robots.
+const THREE: &str =
+    "{\"clients\":[[3,3,3,false]],\"life\":100,\"queue\":4,\"robots\":[[0,false,null,[],[0,0],[0,0]],[2,false,null,[],[0,0],[0,0]],[8,false,null,[],[0,0],[0,0]]],\"tick\":7}";
 
 /// Why one change cannot be made.
 fn first(fault: ChangeFault) -> Option<RefitFault> {
@@ -65,4 +73,14 @@ fn later_changes_at_fault(rt: HostRuntime) {
     assert!(rt; fault_of(&rt, &here, &[held, held]) == again);
     let all = [gone, Change::Leave { robot: 0 }, Change::Hold { robot: 2 }];
     assert!(rt; fault_of(&rt, &here, &all) == Some(RefitFault::NoRobot));
+}
+
+#[test]
+fn openings_of_another_number_of_robots(rt: HostRuntime) {
+    let here = site(&rt);
+    assert!(rt; after_fault(&rt, &here, TWO) == Some(AfterFault::Robots));
+    assert!(rt; after_fault(&rt, &here, THREE) == None);
+    let held = refit_of(&rt, &here, &[Change::Hold { robot: 1 }]);
+    assert!(rt; after_fault(&rt, &held.site, TWO) == None);
+    assert!(rt; after_fault(&rt, &held.site, THREE) == Some(AfterFault::Robots));
 }

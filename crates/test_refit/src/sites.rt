@@ -1,9 +1,10 @@
 //! A small site, and the texts of what its fleet goes on with.
 
+use fleet_history::Chapter;
 use fleet_map::read_map;
-use fleet_refit::{Change, Refit, RefitFault, Site};
+use fleet_refit::{AfterFault, Change, Refit, RefitFault, Site};
 use fleet_trace::{push_opening, read_trace};
-use std::alloc::{Alloc, Global};
+use std::alloc::{Alloc, AllocError, Global};
 use std::process::Abort;
 
 /// A ring of eight cells round a wall: robot 0 on cell 0, robot 1 on cell 6, robot 2 on cell 2.
@@ -48,4 +49,38 @@ pub(crate) fn opening_of(rt: &(impl Alloc<A = Global> + Abort), refit: &Refit) -
     let mut text = String::new(rt.alloc());
     push_opening(rt.alloc(), &mut text, &refit.opening).expect(rt, "memory for a text");
     text
+}
+
+/// Writes a chapter without entries that begins with the opening of that text.
+fn write_chapter(text: &mut String, opening: &str) -> Result<(), AllocError> {
+    text.push_str("{\"chapter\":1,\"entries\":[],\"opening\":")?;
+    text.push_str(opening)?;
+    text.push_str(",\"version\":2}")
+}
+
+/// A chapter that begins with the opening of that text.
+fn chapter_from(rt: &(impl Alloc<A = Global> + Abort), opening: &str) -> Chapter {
+    let mut text = String::new(rt.alloc());
+    write_chapter(&mut text, opening).expect(rt, "memory for a text");
+    read_trace(rt.alloc(), text.as_bytes()).expect(rt, "a trace")
+}
+
+/// The site once its fleet has come to that opening.
+pub(crate) fn after_of(rt: &(impl Alloc<A = Global> + Abort), site: &Site, opening: &str) -> Site {
+    let chapter = chapter_from(rt, opening);
+    site.after(rt.alloc(), &chapter.opening)
+        .expect(rt, "as many robots as move")
+}
+
+/// Why the site does not go on from that opening.
+pub(crate) fn after_fault(
+    rt: &(impl Alloc<A = Global> + Abort),
+    site: &Site,
+    opening: &str,
+) -> Option<AfterFault> {
+    let chapter = chapter_from(rt, opening);
+    match site.after(rt.alloc(), &chapter.opening) {
+        Ok(_site) => None,
+        Err(fault) => Some(fault),
+    }
 }
