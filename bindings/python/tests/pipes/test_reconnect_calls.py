@@ -212,18 +212,22 @@ class ReconnectCallsTest(KilledFleetsTest):
         self.assertEqual(errand.arrived().tick, 1)
         fleet.close()
 
+    def cannot_go_on(self, fleet, why):
+        """Each try to go on fails for this reason, and the fleet has ended."""
+        for _ in range(2):
+            with self.assertRaises(FileFailed) as caught:
+                fleet.reconnect()
+            self.assertIn(why, str(caught.exception))
+        with self.assertRaises(Ended):
+            fleet.close()
+
     def test_another_history(self):
         fleet = self.live()
         self.assertEqual(fleet.go(0, 1).accepted(60), 1)
         self.kill(fleet)
         for name in self.chapters():
             (self.traces / name).unlink()
-        for _ in range(2):
-            with self.assertRaises(FileFailed) as caught:
-                fleet.reconnect()
-            self.assertIn("session 0 orders 0 notices 0 told from 1 closed false, and the client knows 1 verdicts and 1 notices", str(caught.exception))
-        with self.assertRaises(Ended):
-            fleet.close()
+        self.cannot_go_on(fleet, "session 0 orders 0 notices 0 told from 1 closed false, and the client knows 1 verdicts and 1 notices")
 
     def test_notices_that_are_not_kept(self):
         """The verdict is in the journal, was not told, and is not told again."""
@@ -232,12 +236,7 @@ class ReconnectCallsTest(KilledFleetsTest):
         errand = fleet.go(0, 1)
         with self.assertRaises(Ended):
             errand.accepted(60)
-        for _ in range(2):
-            with self.assertRaises(FileFailed) as caught:
-                fleet.reconnect()
-            self.assertIn("session 0 orders 1 notices 1 told from 2 closed false, and the client was told 0 notices", str(caught.exception))
-        with self.assertRaises(Ended):
-            fleet.close()
+        self.cannot_go_on(fleet, "session 0 orders 1 notices 1 told from 2 closed false, and the client was told 0 notices")
 
     # ---- the page
 
