@@ -234,9 +234,15 @@ def compare_names(defined):
 
 
 def compare_table():
-    """The table of docs/EMBEDDING.md names each function of the header, and only what the bindings have."""
+    """The table of docs/EMBEDDING.md names each function of the header, and only what the bindings have. A cell `=` has the names of the cell before it,
+    and those after the sign."""
     rows = re.search(r"^\| What \| C .*?\n\|[-|]+\n(.*?)\n\n", (TOP / "docs" / "EMBEDDING.md").read_text(), re.M | re.S)[1].splitlines()
-    columns = [" ".join(cells) for cells in zip(*(row.strip("|").split("|") for row in rows))]
+    table = [row.strip("|").split("|") for row in rows]
+    for cells in table:
+        for at, cell in enumerate(cells):
+            if cell.lstrip().startswith("="):
+                cells[at] = f"{cells[at - 1]} {cell}"
+    columns = [" ".join(cells) for cells in zip(*table)]
     named = [set(re.findall(r"`(?:\w+::)?(\w+)", column)) for column in columns]
     if {f"nashirudder_{name}" for name in named[1]} != set(exports()):
         fail(f"the table of docs/EMBEDDING.md lacks, or has too many, of {sorted({f'nashirudder_{name}' for name in named[1]} ^ set(exports()))}")
