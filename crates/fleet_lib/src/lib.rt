@@ -47,7 +47,7 @@ pub use live::run_live;
 pub use map::{MapForm, answer_map};
 pub use names::{Named, NamesFault, journal_named, last_chapter};
 pub use pipes::pipe_names;
-pub use plan_trace::{Traced, answer_trace, as_trace};
+pub use plan_trace::{Traced, answer_trace, as_shown, as_trace};
 pub use recalling::{recall_in, recall_trace};
 pub use recovering::{
     JournalText, RecoverFault, Recovered, has_whole_line, recover_journal, recover_line,
