@@ -24,12 +24,7 @@ pub(crate) enum PlanUse {
 }
 
 /// A text that is a plan, as a trace; any other text as it is.
-fn taken(
-    alloc: Global,
-    map: &[u8],
-    input: Vec<u8>,
-    plan_use: PlanUse,
-) -> Result<Traced, AllocError>
+fn taken(alloc: Global, map: &[u8], input: Vec<u8>, plan_use: PlanUse) -> Result<Traced, AllocError>
     requires { vec_len input ≤ 1073741824 }
 {
     match plan_use {
