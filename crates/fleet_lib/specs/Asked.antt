@@ -70,6 +70,7 @@ IsCountAsked rows (Some count) = (word : Text) × (first_of (codes "agents") row
 -- what the words after `check` ask for
 pub record IsCheck (rows : List Row) (check : CheckJob) : Type 0 where
   pub strict : check.strict ≡ has_flag (codes "strict") rows
+  pub all : check.all ≡ has_flag (codes "all") rows
   pub form : check.form ≡ form_in rows
   pub goals : first_of (codes "goals") rows ≡ option_map (λ s. string_bytes s) check.goals
   pub agents : IsCountAsked rows check.agents

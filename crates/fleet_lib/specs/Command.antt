@@ -8,10 +8,10 @@ abbrev pub view_app : App
 view_app = with_rules (new_app (codes "view"))
     (flag_rule (codes "svg") ∷ number_rule (codes "tick") ∷ file_rule (codes "MAP") ∷ files_rule (codes "TRACE") ∷ [])
 
--- check [--strict] [--form FORM] [--goals SCENARIO] [--agents N] MAP PLAN
+-- check [--strict] [--all] [--form FORM] [--goals SCENARIO] [--agents N] MAP PLAN
 abbrev pub check_app : App
 check_app = with_rules (new_app (codes "check"))
-    (flag_rule (codes "strict") ∷ value_rule (codes "form") ∷ value_rule (codes "goals") ∷ number_rule (codes "agents") ∷ file_rule (codes "MAP") ∷ file_rule (codes "PLAN") ∷ [])
+    (flag_rule (codes "strict") ∷ flag_rule (codes "all") ∷ value_rule (codes "form") ∷ value_rule (codes "goals") ∷ number_rule (codes "agents") ∷ file_rule (codes "MAP") ∷ file_rule (codes "PLAN") ∷ [])
 
 -- talk [--marks] [--roll] [--chapter-bytes N] [--roomy] [--planner NAME] [--traces DIR] [--resume] [--resume-only] MAP [SCRIPT]
 abbrev pub talk_app : App
