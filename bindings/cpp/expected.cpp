@@ -186,6 +186,16 @@ static void openings() {
     CHECK((next.placement() == std::vector<std::uint32_t>{1, 4, 10}) && next.queue(0).size() == 1);
     while (!next.is_idle()) next.tick();
     CHECK(next.placement()[0] == 2 && next.placement()[1] == 8);
+    // What is wrong on a map is said in a sentence, of the first robot.
+    const Map ring(RING), walled(wall);
+    CHECK(!state.fault_on(ring) && !state.fault_on(walled));
+    state.robots[2].move_to(6);
+    CHECK(!state.fault_on(ring) && state.fault_on(walled) == "robot 2 is on cell 6, which is no floor");
+    state.robots[2].move_to(4);
+    CHECK(state.fault_on(ring) == "robots 1 and 2 are both on cell 4" && !Fleet::try_reopen(RING, state.trace(), three));
+    state.robots[2].move_to(10);
+    state.robots[1].errands[0].cell = 5;
+    CHECK(state.fault_on(ring) == "no walk leads robot 1 from cell 4 to cell 5, where its errand 3 of client 0 goes");
     for (std::size_t end = 0; end < text.size(); end++) CHECK(Opening::try_of(std::string_view(text).substr(0, end)).error().code == Code::trace_shape);
     std::string great = text;
     great.replace(great.find("\"tick\":1"), 8, "\"tick\":18446744073709551616");

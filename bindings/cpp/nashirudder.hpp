@@ -424,6 +424,8 @@ private:
     const nashirudder_fleet *full = nullptr; // the fleet whose present chapter this is
 };
 
+class Map;
+
 /* How a fleet stands at the beginning of a chapter, as a value (Fleet::opening). It may be kept, changed, and gone on from: on
    another map, with robots that were moved, added or removed, without an errand. Each robot has a floor cell of its own then,
    from which a walk leads to the cells of its errands. */
@@ -470,6 +472,9 @@ struct Opening {
     [[nodiscard]] static Opening of(std::string_view trace) { return detail::value_of(try_of(trace)); }
     /* The text of a chapter that begins so, and has no entries: for Fleet::reopen. */
     [[nodiscard]] std::string trace() const;
+    /* What is wrong with the first such robot on this map, in a sentence; nothing if each stands on a floor cell of its own from
+       which a walk leads to each of its errands. */
+    [[nodiscard]] std::optional<std::string> fault_on(const Map &map) const;
 };
 
 namespace detail {
@@ -1052,14 +1057,15 @@ public:
         detail::check(nashirudder_map_shape(&handle, &shape));
         return shape;
     }
-    /* The cells that are floor, in their order. */
+    /* The cells that are floor, in their order, into a list that has a place for each; how many these are. */
+    std::size_t floor(Span<std::uint32_t> cells) const {
+        std::size_t told = 0;
+        detail::check(nashirudder_map_floor(&handle, cells.data(), cells.size(), &told));
+        return told;
+    }
     [[nodiscard]] std::vector<std::uint32_t> floor() const {
-        const Shape whole = shape();
-        std::vector<std::uint32_t> cells;
-        cells.reserve(whole.floor);
-        for (std::uint32_t cell = 0; cell < whole.cells; cell++) {
-            if (joins(cell, cell)) cells.push_back(cell);
-        }
+        std::vector<std::uint32_t> cells(shape().floor);
+        floor(cells);
         return cells;
     }
     /* Whether both cells are floor, and a walk joins them. */
@@ -1120,6 +1126,23 @@ private:
 
     nashirudder_map handle = NASHIRUDDER_CLOSED;
 };
+
+inline std::optional<std::string> Opening::fault_on(const Map &map) const {
+    using std::to_string;
+    for (std::size_t robot = 0; robot < robots.size(); robot++) {
+        const Robot &of = robots[robot];
+        if (!map.joins(of.cell, of.cell)) return "robot " + to_string(robot) + " is on cell " + to_string(of.cell) + ", which is no floor";
+        for (std::size_t other = 0; other < robot; other++) {
+            if (robots[other].cell == of.cell) return "robots " + to_string(other) + " and " + to_string(robot) + " are both on cell " + to_string(of.cell);
+        }
+        for (const Errand &errand : of.errands) {
+            if (map.joins(of.cell, errand.cell)) continue;
+            return "no walk leads robot " + to_string(robot) + " from cell " + to_string(of.cell) + " to cell " + to_string(errand.cell) +
+                   ", where its errand " + to_string(errand.number) + " of client " + to_string(errand.client) + " goes";
+        }
+    }
+    return std::nullopt;
+}
 
 /* A shield for any policy: one step of any number of robots without conflicts, from what each robot prefers. */
 class Shield {

@@ -1,6 +1,6 @@
 //! The state of a fleet as a value: kept, gone back to, changed, and gone on from.
 
-use nashirudder::{Code, Error, Fleet, Opening, OpeningErrand, OpeningRobot, Robot, Setup};
+use nashirudder::{Code, Error, Fleet, Map, Opening, OpeningErrand, OpeningRobot, Robot, Setup};
 
 const RING: &[u8] = b"type octile\nheight 3\nwidth 4\nmap\n....\n.@..\n....\n";
 const WALL: &[u8] = b"type octile\nheight 3\nwidth 4\nmap\n....\n.@@.\n....\n";
@@ -55,7 +55,17 @@ fn changes() -> Result<(), Error> {
     assert_eq!(fleet.placement()?[..2], [2, 8]);
     state.robots.remove(0);
     assert_eq!(Fleet::reopen(RING, &state.trace(), &[Robot::at(0); 2], &Setup::new(1))?.placement()?, [4, 10]);
+    // On both maps each robot stands well; then two stand on one cell.
+    let (ring, wall) = (Map::open(RING)?, Map::open(WALL)?);
+    assert_eq!((state.fault(&ring)?, state.fault(&wall)?), (None, None));
+    state.robots[1].move_to(6);
+    assert_eq!(state.fault(&wall)?.as_deref(), Some("robot 1 is on cell 6, which is no floor"));
+    state.robots[0].errands[0].cell = 5;
+    let sentence = "no walk leads robot 0 from cell 4 to cell 5, where its errand 3 of client 0 goes";
+    assert_eq!(state.fault(&ring)?.as_deref(), Some(sentence));
+    state.robots[0].errands[0].cell = 8;
     state.robots[1].move_to(4);
+    assert_eq!(state.fault(&ring)?.as_deref(), Some("robots 0 and 1 are both on cell 4"));
     let refused = Fleet::reopen(RING, &state.trace(), &[Robot::at(0); 2], &Setup::new(1)).expect_err("two on one cell");
     assert_eq!((refused.code, refused.numbers), (Code::ChapterIllegal, (0, 1)));
     Ok(())
