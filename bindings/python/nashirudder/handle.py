@@ -6,7 +6,7 @@ import threading
 from ctypes import byref
 from typing import TYPE_CHECKING, Any, Dict, List, Optional, Sequence, Tuple, Type, TypeVar, Union
 
-from .arrays import as_cells, room_in
+from .arrays import new_cells, room_in, without_array
 from .batches import Batches
 from .calls import CArrival, CFault, CFleet, CJudgement, CNote, CReport, CRobot, CSetup, check, load
 from .ended import EndedChapter
@@ -195,13 +195,14 @@ class Handle(Uncopied, Views, Batches):
         `out` is as in `placement`: the cells are written there, and `cells` of what is returned is `out`.
         """
         did, count = CReport(), self._count
-        cells = (ctypes.c_uint32 * count)() if out is None else room_in(out, ctypes.c_uint32, count)
+        told = new_cells(count) if out is None else out
+        cells = room_in(told, ctypes.c_uint32, count)
         gone, came = (ctypes.c_uint32 * count)(), (CArrival * count)()
         check(self._call("tick_into", byref(did), cells, count, came, count, gone, count))
         arrivals = [
             Arrival(one.robot, one.client, one.number, one.cell, did.tick, one.stamp) for one in came[: did.arrived]
         ]
-        return TickRecord(did.tick, as_cells(cells) if out is None else out, arrivals, gone[: did.farewells])
+        return TickRecord(did.tick, without_array(told) if out is None else out, arrivals, gone[: did.farewells])
 
     def shut(self, robot: int) -> bool:
         """The robot gets no more errands. Returns True if it has none, and so took its leave at once.
