@@ -77,9 +77,7 @@ public:
         return {fleet.opening(), draw};
     }
     void load(const Saved &saved) {
-        const std::vector<ns::Robot> unranked(saved.first.robots.size());
-        fleet = ns::Fleet::reopen(text, saved.first.trace(), unranked, ns::endless_setup());
-        fleet.roll();
+        fleet.go_on(text, saved.first);
         shown.cells = fleet.placement();
         draw = saved.second;
     }

@@ -24,6 +24,7 @@
 
 #include "nashirudder.h"
 
+#include <algorithm>
 #include <cstdint>
 #include <cstddef>
 #include <functional>
@@ -633,13 +634,14 @@ public:
     Fleet &operator=(const Fleet &) = delete;
     Fleet(Fleet &&other) noexcept
         : handle(std::exchange(other.handle, nashirudder_fleet NASHIRUDDER_CLOSED)), count(std::exchange(other.count, 0)), number(other.number),
-          rolls(other.rolls), keeper(std::move(other.keeper)) {}
+          manner(other.manner), rolls(other.rolls), keeper(std::move(other.keeper)) {}
     Fleet &operator=(Fleet &&other) noexcept {
         if (this != &other) {
             nashirudder_close(&handle);
             handle = std::exchange(other.handle, nashirudder_fleet NASHIRUDDER_CLOSED);
             count = std::exchange(other.count, 0);
             number = other.number;
+            manner = other.manner;
             rolls = other.rolls;
             keeper = std::move(other.keeper);
         }
@@ -749,7 +751,10 @@ public:
         return account;
     }
     /* Lets the robots take turns from now on, so that errands into dead ends arrive: before the first entry of a chapter. */
-    void take_turns() { detail::check(nashirudder_take_turns(&handle)); }
+    void take_turns() {
+        detail::check(nashirudder_take_turns(&handle));
+        manner.turns = true;
+    }
     void widen(std::uint32_t client, std::uint64_t extra) { detail::check(nashirudder_widen(&handle, client, extra)); }
     /* Where the robots stand, by number, into a list that has one place for each. */
     void placement(Span<std::uint32_t> cells) const { detail::check(nashirudder_placement(&handle, detail::address(cells), cells.size())); }
@@ -825,6 +830,22 @@ public:
     }
     /* How the fleet stood at the beginning of the present chapter; after next_chapter or hand_out, how it stands now. */
     [[nodiscard]] Opening opening() const { return Opening::of(trace()); }
+    /* Goes on from this state, on this map: what was changed in it is so then, and a state of before is gone back to. Limits, keeper
+       of chapters, kept distances, roomy cells and turns are this fleet's, but `queue` and `life` the state's. Mailboxes are empty, so
+       give all notices first. The ranks are those of `robots`, or zero where that is empty. Refused as `reopen`, and by Code::no_turns;
+       then the fleet is as it was. */
+    void go_on(std::string_view map, const Opening &state, Span<const Robot> robots = {}) { detail::value_of(try_go_on(map, state, robots)); }
+    [[nodiscard]] Expected<void> try_go_on(std::string_view map, const Opening &state, Span<const Robot> robots = {}) {
+        forbid_keeper();
+        const std::vector<Robot> unranked(robots.empty() ? state.robots.size() : 0);
+        Fleet next;
+        const Fault fault = next.go_on_from(*this, map, state, robots.empty() ? Span<const Robot>(unranked) : robots);
+        if (fault.code != NASHIRUDDER_DONE) return detail::Unexpected(fault);
+        std::swap(handle, next.handle);
+        std::swap(count, next.count);
+        number = next.number;
+        return {};
+    }
     void next_chapter() { detail::value_of(try_next_chapter()); }
     [[nodiscard]] Expected<void> try_next_chapter() {
         forbid_keeper();
@@ -865,7 +886,10 @@ public:
         }
         rolls = true;
     }
-    void keep(std::size_t bytes) { detail::check(nashirudder_keep(&handle, bytes)); }
+    void keep(std::size_t bytes) {
+        detail::check(nashirudder_keep(&handle, bytes));
+        manner.kept = bytes;
+    }
     /* How many robots there are. */
     [[nodiscard]] std::size_t robots() const { return count; }
     [[nodiscard]] std::size_t clients() const {
@@ -898,6 +922,7 @@ private:
         Fault fault{};
         nashirudder_code code = call(detail::address(map), map.size(), robots.data(), robots.size(), &setup, &handle, &fault);
         if (code == NASHIRUDDER_DONE) count = robots.size();
+        manner = {setup, call == nashirudder_open_roomy, false, std::nullopt};
         return detail::fault_of(code, fault);
     }
     Fault reopen_by(decltype(&nashirudder_reopen) call, std::string_view map, std::string_view text, Span<const Robot> robots, const Setup &setup) {
@@ -905,10 +930,25 @@ private:
         nashirudder_code code = call(detail::address(map), map.size(), detail::address(text), text.size(), robots.data(), robots.size(), &setup, &handle, &fault);
         if (code != NASHIRUDDER_DONE) return detail::fault_of(code, fault);
         count = robots.size();
+        manner = {setup, call == nashirudder_reopen_roomy, false, std::nullopt};
         auto told = try_trace();
         if (!told) return told.error();
         number = number_in(*told);
         return {};
+    }
+    /* Opens a closed fleet that goes on from a state in the manner of another. */
+    Fault go_on_from(const Fleet &other, std::string_view map, const Opening &state, Span<const Robot> robots) {
+        Setup setup{};
+        nashirudder_code code = nashirudder_limits(&other.handle, &setup);
+        if (code != NASHIRUDDER_DONE) return {0, 0, code};
+        setup = other.manner.setup;
+        setup.queue = static_cast<std::uint32_t>(std::min<std::uint64_t>(state.queue, UINT32_MAX));
+        setup.life = state.life;
+        const Fault fault = reopen_by(other.manner.roomy ? nashirudder_reopen_roomy : nashirudder_reopen, map, state.trace(), robots, setup);
+        if (fault.code != NASHIRUDDER_DONE) return fault;
+        if (other.manner.turns) code = nashirudder_take_turns(&handle);
+        if (code == NASHIRUDDER_DONE && other.manner.kept) code = nashirudder_keep(&handle, *other.manner.kept);
+        return {0, 0, code};
     }
     static Expected<Fleet> tried(decltype(&nashirudder_open) call, std::string_view map, Span<const Robot> robots, const Setup &setup) {
         Fleet fleet;
@@ -976,9 +1016,17 @@ private:
         return list;
     }
 
+    /* How it was opened, and is to go on. */
+    struct Manner {
+        Setup setup{};
+        bool roomy = false, turns = false;
+        std::optional<std::size_t> kept{};
+    };
+
     nashirudder_fleet handle = NASHIRUDDER_CLOSED;
     std::size_t count = 0;
     std::uint64_t number = 0; // of the present chapter
+    Manner manner;
     bool rolls = false, is_keeping = false;
     std::shared_ptr<std::function<bool(const Chapter &)>> keeper;
 };

@@ -121,3 +121,16 @@ class Opening:
                 if not map.joins(of.cell, errand.cell):
                     return f"no walk leads robot {robot} from cell {of.cell} to cell {errand.cell}, where its errand {errand.number} of client {errand.client} goes"
         return None
+
+
+def told_by(text: bytes) -> Dict[str, int]:
+    """What the text of a chapter tells: its number, the limits that it has, and how many robots there are; nothing, if
+    it is no such text, of which the library says more.
+    """
+    try:
+        told = json.loads(text)
+        opening = told["opening"]
+        found = {"chapter": told["chapter"], "queue": opening["queue"], "life": opening["life"], "robots": len(opening["robots"])}
+    except (ValueError, LookupError, TypeError, RecursionError):
+        return {}
+    return found if all(type(number) is int and 0 <= number <= 2**40 for number in found.values()) else {}
