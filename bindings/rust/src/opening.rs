@@ -9,7 +9,7 @@ use crate::state::Opening;
 use std::mem;
 
 /// How a fleet was opened, and is to go on.
-#[derive(Clone, Copy, Default)]
+#[derive(Clone, Copy)]
 pub(crate) struct Manner {
     setup: Setup,
     roomy: bool,
