@@ -163,7 +163,7 @@ static void openings() {
     fleet.next_chapter();
     Opening state = fleet.opening();
     const std::string text = fleet.trace();
-    CHECK(state.trace() == text && Opening::of(text).trace() == text && state.tick == 1 && state.chapter == 1 && state.queue == 16);
+    CHECK(state.trace() == text && Opening::of(text) == state && Opening::of(text).trace() == text && state.tick == 1 && state.chapter == 1 && state.queue == 16);
     auto play = [](Fleet &of) {
         for (std::uint32_t tick = 0; tick < 30; tick++) {
             (void)of.go(0, tick % 2, 7 * tick % 12);
@@ -181,6 +181,7 @@ static void openings() {
     const std::string wall = "type octile\nheight 3\nwidth 4\nmap\n....\n.@@.\n....\n";
     CHECK(state.robots[0].cancel(1)->cell == 11 && state.robots[0].wait == 0 && !state.robots[0].cancel(2) && !state.robots[0].cancel(0));
     state.robots[1].move_to(4);
+    CHECK(Opening::of(text) != state);
     state.robots.emplace_back().cell = 10;
     Fleet next = Fleet::reopen(wall, state.trace(), three);
     CHECK((next.placement() == std::vector<std::uint32_t>{1, 4, 10}) && next.queue(0).size() == 1);

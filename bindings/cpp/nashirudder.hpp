@@ -476,6 +476,9 @@ struct Opening {
     /* What is wrong with the first such robot on this map, in a sentence; nothing if each stands on a floor cell of its own from
        which a walk leads to each of its errands. */
     [[nodiscard]] std::optional<std::string> fault_on(const Map &map) const;
+
+    friend bool operator==(const Opening &one, const Opening &other) { return one.trace() == other.trace(); }
+    friend bool operator!=(const Opening &one, const Opening &other) { return !(one == other); }
 };
 
 namespace detail {
