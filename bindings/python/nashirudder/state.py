@@ -50,8 +50,8 @@ class Opening:
     """How a fleet stands at the beginning of a chapter (docs/TRACE.md, "The keys").
 
     `of` reads one from the text of a chapter, and `trace` writes the text of a chapter without entries, from which
-    `Handle.reopen` goes on, as `Handle.go_on` does from the state itself. Robots may be moved, added and removed in between: each has a floor cell of its own, and a
-    walk leads from it to the cells of its errands.
+    `Handle.reopen` goes on, as `Handle.go_on` does from the state itself. Robots may be moved, added and removed in
+    between: each has a floor cell of its own, and a walk leads from it to the cells of its errands.
     """
 
     chapter: int
