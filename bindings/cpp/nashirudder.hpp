@@ -24,7 +24,6 @@
 
 #include "nashirudder.h"
 
-#include <algorithm>
 #include <cstdint>
 #include <cstddef>
 #include <functional>
@@ -945,7 +944,7 @@ private:
         nashirudder_code code = nashirudder_limits(&other.handle, &setup);
         if (code != NASHIRUDDER_DONE) return {0, 0, code};
         setup = other.manner.setup;
-        setup.queue = static_cast<std::uint32_t>(std::min<std::uint64_t>(state.queue, UINT32_MAX));
+        setup.queue = state.queue > UINT32_MAX ? UINT32_MAX : static_cast<std::uint32_t>(state.queue);
         setup.life = state.life;
         const Fault fault = reopen_by(other.manner.roomy ? nashirudder_reopen_roomy : nashirudder_reopen, map, state.trace(), robots, setup);
         if (fault.code != NASHIRUDDER_DONE) return fault;
