@@ -26,3 +26,4 @@ pub mod Once
 pub mod Lists
 pub mod Heard
 pub mod Again
+pub mod Rolls
