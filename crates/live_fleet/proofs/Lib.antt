@@ -27,3 +27,4 @@ pub mod Lists
 pub mod Heard
 pub mod Again
 pub mod Rolls
+pub mod InTime

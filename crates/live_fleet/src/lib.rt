@@ -32,9 +32,10 @@ mod turning;
 
 pub use cue::Cue;
 pub use law::{
-    ends_are_told_last, histories_are_safe, histories_follow_one_another, lists_are_told_whole,
-    notices_are_counted, notices_are_kept, notices_are_told_once, notices_are_told_to_their_own,
-    turns_are_shown_last, whatever_it_hears_is_a_run,
+    ends_are_told_last, first_notices_are_in_time, histories_are_safe,
+    histories_follow_one_another, lists_are_told_whole, notices_are_counted, notices_are_kept,
+    notices_are_told_once, notices_are_told_to_their_own, turns_are_shown_last,
+    whatever_it_hears_is_a_run,
 };
 pub use notes::Note;
 pub use open_fleet::OpenFleet;

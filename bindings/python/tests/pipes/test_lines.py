@@ -3,8 +3,9 @@ down here by hand.
 """
 
 import asyncio
+import random
 
-from kept_chapters import PROGRAM, KeptChaptersTest
+from kept_chapters import OPEN, PROGRAM, RING, KeptChaptersTest, model
 from nashirudder import LiveFleet
 from nashirudder.events import Judged, NotPosted, Posted
 from nashirudder.records import Hello, Standing
@@ -99,6 +100,31 @@ class LinesTest(KeptChaptersTest):
         posts = "as 1 post 0 go 0 2\nas 2 post 0 go 0 0\n"
         self.assertEqual(self.said(posts, *words)[0::2], ["posted 0 1", "posted 0 2"])
         self.assertEqual(self.said(f"{posts}as 3 post 0 close\n", *words)[:3], ["post-refused 0 4 next 3", "post-refused 0 4 next 3", "posted 0 3"])
+
+    def test_as_the_model_says(self):
+        """Random conversations on demand."""
+        models = model("live")
+        for seed in range(60):
+            draw = random.Random(seed)
+            text = draw.choice((RING, OPEN))
+            floor = [cell for cell, letter in enumerate("".join(text.split("\n")[4:])) if letter == "."]
+            self.map.write_text(text)
+            robots = draw.sample(floor, draw.randint(1, 5))
+            clients = draw.randint(1, 3)
+            head = f"robots {' '.join(map(str, robots))}\nclients {clients}\nqueue {draw.randint(1, 4)}\n"
+            lines = "".join(self.some_line(draw, len(robots), clients, floor) for _ in range(40))
+            said = self.run_program(["live", self.map, *self.head(head)], lines)
+            output, complaint, status, _ = models.live(text.encode(), head.encode(), lines.encode())
+            with self.subTest(seed=seed):
+                self.assertEqual(said, (output.decode(), complaint, status))
+
+    @staticmethod
+    def some_line(draw, robots, clients, floor):
+        client, kind, mark = draw.randrange(clients + 1), draw.randrange(10), draw.choice(("", "@m "))
+        if kind < 6:
+            orders = ["close"] + [f"go {draw.randrange(robots)} {draw.choice(floor)}"] * 20 + [f"withdraw {draw.randint(1, 9)}"] * 4
+            return f"{mark}as {draw.randint(1, 9)} post {client} {draw.choice(orders)}\n" if kind < 4 else f"post {client} go 0 {draw.choice(floor)}\n"
+        return mark + draw.choice(("tick\n", "robots\n", "hello\n", f"shut {draw.randrange(robots)}\n", "chapter\n", f"session {client}\n"))
 
     # ---- Python's classes
 
