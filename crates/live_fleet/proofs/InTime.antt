@@ -1,5 +1,5 @@
 -- The numbers of notices that can be told again.
-use Rattle.std.proofs.Common.{◌≡◌, ◌∙◌, ℕ, zero, suc, ◌+◌, ◌-◌, ◌≤◌, ◌<◌, Bool, true, false, List, [], ◌∷◌, ◌++◌, length, drop, map, get_or, sym, ap, subst, arith}
+use Rattle.std.proofs.Common.{◌≡◌, ℕ, zero, suc, ◌+◌, ◌-◌, ◌≤◌, ◌<◌, Bool, true, false, List, [], ◌∷◌, ◌++◌, length, drop, map, get_or, sym, ap, subst, arith}
 use Rattle.std.proofs.Math.Nat.{min-le_left}
 use Rattle.std.specs.Prelude.{◌^◌, if◌then◌else◌}
 use Rattle.std.specs.List.{AllByRecursion}
@@ -8,7 +8,7 @@ use Rattle.fleet_book.specs.declared.notice.Notice.{Notice}
 use Rattle.fleet_history.specs.History.{History, client_at, clients}
 use Rattle.fleet_history.specs.Notices.{seq_of}
 use Rattle.fleet_history.specs.Numbering.{numbers_behind}
-use Rattle.live_parts.specs.Recalls.{Recall, Recalls, first_of, first_seq, is_numbered, last_notice, last_of, recall_of}
+use Rattle.live_parts.specs.Recalls.{Recall, Recalls, first_of, first_seq, is_numbered, last_notice, recall_of}
 use Rattle.live_fleet.specs.Law.{AreInTime, AreKept, AreNumberedOn, left_of}
 use Rattle.live_fleet.specs.Recalling.{AreBegun}
 use Rattle.live_fleet.specs.Went.{FleetView}

@@ -1,7 +1,7 @@
 //! How all robots of a fleet stand.
 
 ghost use Rattle.std.specs.Prelude.{◌≡◌, ◌≤◌, ◌<◌, ◌++◌, ◌||◌, ◌==◌, false, IfOk, List, OnOk, Some, map, slice_get, slice_index, slice_index_or, vec_len};
-ghost use Rattle.std.specs.List.{flat_map, list_any, range_with_len};
+ghost use Rattle.std.specs.List.{flat_map, list_any};
 ghost use Rattle.fleet_history.specs.History.{place, robots};
 ghost use Rattle.fleet_talk.specs.Said.{under};
 ghost use Rattle.live_fleet.specs.declared.speaker.Speaker.{Speaker};

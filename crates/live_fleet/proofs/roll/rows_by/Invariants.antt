@@ -1,5 +1,5 @@
 -- The rows of the robots so far.
-use Rattle.std.proofs.Common.{◌≡◌, ◌≤◌, List, map, vec_len, vec_capacity}
+use Rattle.std.proofs.Common.{◌≡◌, ◌≤◌, map, vec_len, vec_capacity}
 use Rattle.std.specs.List.{range_with_len}
 use Rattle.live_fleet.specs.Robots.{row_of}
 use Rattle.live_fleet.proofs.roll.rows_by.Given as goal

@@ -1,5 +1,5 @@
 -- The answer was said.
-use Rattle.std.proofs.Common.{◌≡◌, ◌∙◌, ℕ, List, ap, subst}
+use Rattle.std.proofs.Common.{◌≡◌, ◌∙◌, ℕ, List, subst}
 use Rattle.std.specs.Prelude.{OnOk, Some, slice_get}
 use Rattle.fleet_talk.specs.Said.{under}
 use Rattle.fleet_talk.specs.Says.{marked}
