@@ -4,4 +4,3 @@ pub mod Keeping
 pub mod MadeNotices
 pub mod Recalling
 pub mod Remembered
-pub mod Asking
