@@ -9,7 +9,7 @@ use std::fs::Files;
 use std::io::Write;
 
 /// How many bytes of chapters are read for it, the last one of them whole.
-const MOST_READ: usize = 67_108_864;
+const MOST_READ: usize = 16_777_216;
 
 /// The notices that the last chapters of a folder tell, of each client no more than are recalled.
 fn recalls_of<R: Files + Alloc<A = Global>>(
