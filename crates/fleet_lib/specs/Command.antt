@@ -1,5 +1,5 @@
 -- The words that the program takes.
-use Rattle.std.specs.Prelude.{[], ◌∷◌, true, codes}
+use Rattle.std.specs.Prelude.{List, [], ◌∷◌, true, codes}
 use Rattle.clap.specs.Words.{App, new_app, new_rule}
 use Rattle.command_words.specs.Table.{file_rule, files_rule, flag_rule, value_rule, values_rule, required_value_rule, number_rule, with_rules, program_top, with_words}
 
@@ -53,6 +53,12 @@ abbrev pub execute_app : App
 execute_app = with_rules (new_app (codes "execute"))
     (value_rule (codes "clearance") ∷ number_rule (codes "ahead") ∷ value_rule (codes "form") ∷ file_rule (codes "MAP") ∷ file_rule (codes "PLAN") ∷ [])
 
+abbrev pub first_apps : List App
+first_apps = view_app ∷ check_app ∷ talk_app ∷ convert_app ∷ explain_app ∷ live_app ∷ []
+
+abbrev pub last_apps : List App
+last_apps = stats_app ∷ judge_app ∷ map_app ∷ execute_app ∷ []
+
 -- fleet, which tells its version and wants a word
 abbrev pub fleet_app : App
-fleet_app = with_words (program_top (codes "fleet") true) (view_app ∷ check_app ∷ talk_app ∷ convert_app ∷ explain_app ∷ live_app ∷ stats_app ∷ judge_app ∷ map_app ∷ execute_app ∷ [])
+fleet_app = with_words (with_words (program_top (codes "fleet") true) first_apps) last_apps
