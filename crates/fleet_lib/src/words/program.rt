@@ -11,6 +11,7 @@ use crate::words::explain::EXPLAIN;
 use crate::words::judge::JUDGE;
 use crate::words::live::LIVE;
 use crate::words::map::MAP_WORD;
+use crate::words::sim::SIM;
 use crate::words::stats::STATS;
 use crate::words::talk::TALK;
 use crate::words::view::VIEW;
@@ -27,7 +28,7 @@ pub(crate) const FLEET: Program<'static> = Program {
     note: None,
     needs_word: true,
     words: &[
-        VIEW, CHECK, TALK, CONVERT, EXPLAIN, LIVE, STATS, JUDGE, MAP_WORD, EXECUTE,
+        VIEW, CHECK, TALK, CONVERT, EXPLAIN, LIVE, STATS, JUDGE, MAP_WORD, EXECUTE, SIM,
     ],
 };
 

@@ -1,0 +1,106 @@
+//! A line of the table: what is told of the runs of one number of robots.
+
+ghost use Rattle.std.specs.Prelude.{◌≡◌, ◌++◌, ◌∷◌, ◌≤◌, [], count_by, IfOk, OnOk, length};
+ghost use Rattle.fleet_sim.specs.Table.{values_of, value_if, is_frozen, IsSpread, IsDeviation};
+
+use crate::cell::Cell;
+use crate::column::Column;
+use crate::mean::{deviation_of, mean_of};
+use crate::run::Run;
+use std::alloc::{AllocError, Global};
+
+/// A line, cell by cell, in the order of the names.
+#[derive(Debug, Drop)]
+pub struct Line {
+    pub(crate) cells: Vec<Cell>,
+}
+
+/// Adds a value, if there is one.
+fn push_if(values: &mut Vec<u64>, value: Option<u64>) -> Result<(), AllocError>
+    ensures { OnOk result (values.new.items ≡ values.old.items ++ value_if value) }
+{
+    if let Some(number) = value {
+        values.push(number)?;
+    }
+    Ok(())
+}
+
+/// The figures of the runs that have it.
+fn values_of(alloc: Global, column: Column, runs: &[Run]) -> Result<Vec<u64>, AllocError>
+    ensures { IfOk result (λ values. values.items ≡ values_of column runs.now) }
+{
+    let mut values = Vec::new(alloc);
+    push_values(&mut values, column, runs)?;
+    Ok(values)
+}
+
+/// Adds the figures of the runs that have it.
+fn push_values(values: &mut Vec<u64>, column: Column, runs: &[Run]) -> Result<(), AllocError>
+    ensures { OnOk result (values.new.items ≡ values.old.items ++ values_of column runs.now) }
+{
+    for run in runs {
+        push_if(values, column.value_of(run))?;
+    }
+    Ok(())
+}
+
+/// The mean of values, and their deviation.
+fn spread_of(values: &[u64]) -> (Cell, Cell)
+    ensures { IsSpread values.now result.0 result.1 }
+{
+    if values.is_empty() {
+        return (Cell::Nothing, Cell::Nothing);
+    }
+    let mean = Cell::Parts(mean_of(values));
+    if values.len() == 1 {
+        return (mean, Cell::Nothing);
+    }
+    (mean, Cell::Parts(deviation_of(values)))
+}
+
+/// In how many runs nobody arrived in the last quarter of the ticks.
+fn frozen_in(runs: &[Run]) -> usize
+    ensures { result ≡ count_by is_frozen runs.now }
+{
+    runs.iter()
+        .filter(|run| run.figures.arrivals_at_end == 0)
+        .count()
+}
+
+/// The ticks of the first run that are counted.
+fn ticks_of(runs: &[Run]) -> u64 {
+    match runs.first() {
+        Some(run) => run.figures.ticks,
+        None => 0,
+    }
+}
+
+/// Adds the mean and the deviation of each of these columns.
+fn push_columns(
+    alloc: Global,
+    cells: &mut Vec<Cell>,
+    columns: &[Column],
+    runs: &[Run],
+) -> Result<(), AllocError> {
+    for column in columns {
+        let values = values_of(alloc, *column, runs)?;
+        let (mean, deviation) = spread_of(&values);
+        cells.push(mean)?;
+        cells.push(deviation)?;
+    }
+    Ok(())
+}
+
+/// The line of the runs of this many robots, with their times if these are told.
+pub fn line_of(alloc: Global, robots: u32, runs: &[Run], timed: bool) -> Result<Line, AllocError> {
+    let mut cells = Vec::new(alloc);
+    cells.push(Cell::Whole(u64::from(robots)))?;
+    cells.push(Cell::Whole(runs.len() as u64))?;
+    cells.push(Cell::Whole(ticks_of(runs)))?;
+    cells.push(Cell::Whole(frozen_in(runs) as u64))?;
+    push_columns(alloc, &mut cells, &Column::FIGURES, runs)?;
+    if timed {
+        push_columns(alloc, &mut cells, &Column::TIMES, runs)?;
+    }
+    Ok(Line { cells })
+}
