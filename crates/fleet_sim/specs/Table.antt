@@ -25,6 +25,9 @@ quotient n by = if by == 0 then None else Some (min (n * 1000 / by) (2 ^ 64 - 1)
 abbrev pub counted : ℕ → ℕ → Option ℕ
 counted count n = if count == 0 then None else quotient n 1
 
+abbrev pub some_of : ℕ → ℕ → Option ℕ
+some_of count n = if count == 0 then None else Some n
+
 -- a figure of the times, if they are told
 abbrev pub timed : (Times → Option ℕ) → Option Times → Option ℕ
 timed f None = None
@@ -38,9 +41,9 @@ value_of column.ServiceNinetyNinth run = counted run.figures.service.count run.f
 value_of column.Delay run = quotient (run.figures.travel - run.figures.distance) run.figures.service.count
 value_of column.DelayRatio run = quotient run.figures.travel run.figures.distance
 value_of column.LongestWait run = quotient run.figures.waited 1
--- microseconds
-value_of column.StepMedian run = timed (λ t. counted t.steps.count t.steps.median) run.times
-value_of column.StepNinetyNinth run = timed (λ t. counted t.steps.count t.steps.ninety_ninth) run.times
+-- microseconds, whose thousandths are nanoseconds
+value_of column.StepMedian run = timed (λ t. some_of t.steps.count t.steps.median) run.times
+value_of column.StepNinetyNinth run = timed (λ t. some_of t.steps.count t.steps.ninety_ninth) run.times
 value_of column.Planning run = timed (λ t. quotient t.planning t.steps.total) run.times
 
 -- ---- over runs
@@ -78,6 +81,36 @@ pub data IsSpread (xs : List ℕ) (mean deviation : Cell) : Type 0 where
   one : length xs ≡ 1 → mean ≡ Parts (mean_of xs) → deviation ≡ Nothing → IsSpread xs mean deviation
   more : (r : ℕ) → 1 < length xs → mean ≡ Parts (mean_of xs) → deviation ≡ Parts r → IsDeviation xs r → IsSpread xs mean deviation
 
+-- the cells of columns: a mean and a deviation of each
+abbrev pub AreSpreads : List Column → List Run → List Cell → Type 0
+AreSpreads [] runs [] = Unit {0}
+AreSpreads [] runs (cell ∷ cells) = ⊥
+AreSpreads (c ∷ cs) runs [] = ⊥
+AreSpreads (c ∷ cs) runs (mean ∷ []) = ⊥
+AreSpreads (c ∷ cs) runs (mean ∷ deviation ∷ cells) = IsSpread (values_of c runs) mean deviation × AreSpreads cs runs cells
+
+-- the columns of a line, in their order
+abbrev pub figure_columns : List Column
+figure_columns = column.Throughput ∷ column.ServiceMedian ∷ column.ServiceNinetieth ∷ column.ServiceNinetyNinth ∷ column.Delay ∷ column.DelayRatio ∷ column.LongestWait ∷ []
+
+abbrev pub time_columns : Bool → List Column
+time_columns false = []
+time_columns true = column.StepMedian ∷ column.StepNinetyNinth ∷ column.Planning ∷ []
+
 -- nobody arrived in the last quarter of the ticks
 abbrev pub is_frozen : Run → Bool
 is_frozen run = run.figures.arrivals_at_end == 0
+
+-- the ticks of the first run that are counted
+abbrev pub ticks_of : List Run → ℕ
+ticks_of [] = 0
+ticks_of (run ∷ runs) = run.figures.ticks
+
+-- the line of the runs of this many robots: how many robots, runs, ticks and frozen runs there are, and the spreads of figures, and of times where
+-- these are told
+pub record IsLine (robots : ℕ) (runs : List Run) (timed : Bool) (cells : List Cell) : Type 0 where
+  pub figures : List Cell
+  pub times : List Cell
+  pub figured : AreSpreads figure_columns runs figures
+  pub measured : AreSpreads (time_columns timed) runs times
+  pub is : cells ≡ Whole robots ∷ Whole (length runs) ∷ Whole (ticks_of runs) ∷ Whole (count_by is_frozen runs) ∷ (figures ++ times)

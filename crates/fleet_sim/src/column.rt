@@ -1,7 +1,7 @@
 //! The columns of the table that have a mean and a deviation.
 
 ghost use Rattle.std.specs.Prelude.{◌≡◌};
-ghost use Rattle.fleet_sim.specs.Table.{quotient, counted, value_of};
+ghost use Rattle.fleet_sim.specs.Table.{quotient, counted, some_of, value_of};
 
 use crate::run::{Run, Times};
 
@@ -18,7 +18,7 @@ pub(crate) enum Column {
     /// The ticks by the distances.
     DelayRatio,
     LongestWait,
-    /// In microseconds.
+    /// In microseconds, whose thousandths are nanoseconds.
     StepMedian,
     StepNinetyNinth,
     /// The time of the ticks by that of the steps.
@@ -78,11 +78,11 @@ impl Column {
             Column::DelayRatio => quotient(figures.travel, figures.distance),
             Column::LongestWait => quotient(figures.waited, 1),
             Column::StepMedian => match run.times {
-                Some(Times { steps, .. }) => counted(steps.count, steps.median),
+                Some(Times { steps, .. }) => some_of(steps.count, steps.median),
                 None => None,
             },
             Column::StepNinetyNinth => match run.times {
-                Some(Times { steps, .. }) => counted(steps.count, steps.ninety_ninth),
+                Some(Times { steps, .. }) => some_of(steps.count, steps.ninety_ninth),
                 None => None,
             },
             Column::Planning => match run.times {
@@ -102,6 +102,13 @@ fn quotient(number: u64, by: u64) -> Option<u64>
     }
     let parts = number as u128 * 1000 / by as u128;
     Some(parts.min(18_446_744_073_709_551_615) as u64)
+}
+
+/// A figure of some numbers; none if there are none.
+fn some_of(count: u64, number: u64) -> Option<u64>
+    ensures { result ≡ some_of count number }
+{
+    if count == 0 { None } else { Some(number) }
 }
 
 /// The thousandths of a figure of some numbers; none if there are none.

@@ -1,7 +1,9 @@
 //! A line of the table: what is told of the runs of one number of robots.
 
-ghost use Rattle.std.specs.Prelude.{◌≡◌, ◌++◌, ◌∷◌, ◌≤◌, [], count_by, IfOk, OnOk, length};
-ghost use Rattle.fleet_sim.specs.Table.{values_of, value_if, is_frozen, IsSpread, IsDeviation};
+ghost use Rattle.std.specs.Prelude.{◌≡◌, ◌++◌, ◌∷◌, [], List, count_by, IfOk, OnOk, length};
+ghost use Rattle.fleet_sim.specs.Table.{values_of, value_if, is_frozen, ticks_of, time_columns, IsSpread, AreSpreads, IsLine};
+ghost use Rattle.fleet_sim.specs.declared.cell.Cell.{Cell};
+ghost use Rattle.fleet_sim.specs.declared.cell.Cell.TheVariants.{Whole};
 
 use crate::cell::Cell;
 use crate::column::Column;
@@ -68,7 +70,9 @@ fn frozen_in(runs: &[Run]) -> usize
 }
 
 /// The ticks of the first run that are counted.
-fn ticks_of(runs: &[Run]) -> u64 {
+fn ticks_of(runs: &[Run]) -> u64
+    ensures { result ≡ ticks_of runs.now }
+{
     match runs.first() {
         Some(run) => run.figures.ticks,
         None => 0,
@@ -81,7 +85,9 @@ fn push_columns(
     cells: &mut Vec<Cell>,
     columns: &[Column],
     runs: &[Run],
-) -> Result<(), AllocError> {
+) -> Result<(), AllocError>
+    ensures { OnOk result ((more : List Cell) × AreSpreads columns.now runs.now more × (cells.new.items ≡ cells.old.items ++ more)) }
+{
     for column in columns {
         let values = values_of(alloc, *column, runs)?;
         let (mean, deviation) = spread_of(&values);
@@ -91,16 +97,34 @@ fn push_columns(
     Ok(())
 }
 
+/// The first cells of a line.
+fn counts_of(alloc: Global, robots: u32, runs: &[Run]) -> Result<Vec<Cell>, AllocError>
+    ensures { IfOk result (λ cells. cells.items ≡ Whole robots ∷ Whole (length runs.now) ∷ Whole (ticks_of runs.now) ∷ Whole (count_by is_frozen runs.now) ∷ []) }
+{
+    Vec::from_slice(
+        alloc,
+        &[
+            Cell::Whole(u64::from(robots)),
+            Cell::Whole(runs.len() as u64),
+            Cell::Whole(ticks_of(runs)),
+            Cell::Whole(frozen_in(runs) as u64),
+        ],
+    )
+}
+
+/// The columns of times, if they are told.
+fn time_columns(timed: bool) -> &'static [Column]
+    ensures { result.now ≡ time_columns timed }
+{
+    if timed { &Column::TIMES } else { &[] }
+}
+
 /// The line of the runs of this many robots, with their times if these are told.
-pub fn line_of(alloc: Global, robots: u32, runs: &[Run], timed: bool) -> Result<Line, AllocError> {
-    let mut cells = Vec::new(alloc);
-    cells.push(Cell::Whole(u64::from(robots)))?;
-    cells.push(Cell::Whole(runs.len() as u64))?;
-    cells.push(Cell::Whole(ticks_of(runs)))?;
-    cells.push(Cell::Whole(frozen_in(runs) as u64))?;
+pub fn line_of(alloc: Global, robots: u32, runs: &[Run], timed: bool) -> Result<Line, AllocError>
+    ensures { IfOk result (λ line. IsLine robots runs.now timed line.cells.items) }
+{
+    let mut cells = counts_of(alloc, robots, runs)?;
     push_columns(alloc, &mut cells, &Column::FIGURES, runs)?;
-    if timed {
-        push_columns(alloc, &mut cells, &Column::TIMES, runs)?;
-    }
+    push_columns(alloc, &mut cells, time_columns(timed), runs)?;
     Ok(Line { cells })
 }

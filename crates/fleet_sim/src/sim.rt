@@ -59,8 +59,8 @@ struct Begin {
 
 /// Why a setting has no run.
 fn setting_fault(grid: &Grid, setting: Setting<'_>) -> Option<SimFault>
-    ensures fault { IfSome result (IsUnset grid.now setting.robots setting.manner) }
-    ensures none { result ≡ None → IsSet grid.now setting.robots }
+    ensures fault { IfSome result (IsUnset grid.now setting.entry.robots setting.entry.manner) }
+    ensures none { result ≡ None → IsSet grid.now setting.entry.robots }
 {
     if setting.robots == 0 || setting.robots > MOST_ROBOTS {
         Some(SimFault::Robots)
@@ -163,9 +163,9 @@ impl Sim {
     ///
     /// Refused in this order: not 1 to 512 robots, fewer floor cells than robots, out of memory, no turns on this map.
     pub fn open(alloc: Global, grid: Grid, setting: Setting<'_>) -> Result<Sim, SimFault>
-        ensures set { OnOk result (IsSet grid setting.robots) }
+        ensures set { OnOk result (IsSet grid setting.entry.robots) }
         ensures floor { IfOk result (λ s. s.world.core.floor ≡ grid) }
-        ensures fault { IfErr result (IsUnset grid setting.robots setting.manner) }
+        ensures fault { IfErr result (IsUnset grid setting.entry.robots setting.entry.manner) }
     {
         if let Some(fault) = setting_fault(&grid, setting) {
             mem::drop(grid);
