@@ -75,11 +75,18 @@ pub record IsDeviation (xs : List ℕ) (r : ℕ) : Type 0 where
   pub low : r * r ≤ variance_of xs
   pub high : variance_of xs < (r + 1) * (r + 1)
 
--- a mean, if any run has the figure, and a deviation, if two have it
-pub data IsSpread (xs : List ℕ) (mean deviation : Cell) : Type 0 where
-  none : xs ≡ [] → mean ≡ Nothing → deviation ≡ Nothing → IsSpread xs mean deviation
-  one : length xs ≡ 1 → mean ≡ Parts (mean_of xs) → deviation ≡ Nothing → IsSpread xs mean deviation
-  more : (r : ℕ) → 1 < length xs → mean ≡ Parts (mean_of xs) → deviation ≡ Parts r → IsDeviation xs r → IsSpread xs mean deviation
+-- a mean, if any run has the figure
+abbrev pub mean_cell : List ℕ → Cell
+mean_cell xs = if length xs == 0 then Nothing else Parts (mean_of xs)
+
+-- a deviation, if two have it
+pub data IsDeviationCell (xs : List ℕ) (cell : Cell) : Type 0 where
+  few : length xs < 2 → cell ≡ Nothing → IsDeviationCell xs cell
+  more : (r : ℕ) → 2 ≤ length xs → cell ≡ Parts r → IsDeviation xs r → IsDeviationCell xs cell
+
+pub record IsSpread (xs : List ℕ) (mean deviation : Cell) : Type 0 where
+  pub mean_is : mean ≡ mean_cell xs
+  pub deviation_is : IsDeviationCell xs deviation
 
 -- the cells of columns: a mean and a deviation of each
 abbrev pub AreSpreads : List Column → List Run → List Cell → Type 0

@@ -1,7 +1,7 @@
 //! A line of the table: what is told of the runs of one number of robots.
 
 ghost use Rattle.std.specs.Prelude.{◌≡◌, ◌++◌, ◌∷◌, [], List, count_by, IfOk, OnOk, length};
-ghost use Rattle.fleet_sim.specs.Table.{values_of, value_if, is_frozen, ticks_of, time_columns, IsSpread, AreSpreads, IsLine};
+ghost use Rattle.fleet_sim.specs.Table.{values_of, value_if, is_frozen, ticks_of, time_columns, mean_cell, IsDeviationCell, IsSpread, AreSpreads, IsLine};
 ghost use Rattle.fleet_sim.specs.declared.cell.Cell.{Cell};
 ghost use Rattle.fleet_sim.specs.declared.cell.Cell.TheVariants.{Whole};
 
@@ -46,18 +46,26 @@ fn push_values(values: &mut Vec<u64>, column: Column, runs: &[Run]) -> Result<()
     Ok(())
 }
 
-/// The mean of values, and their deviation.
-fn spread_of(values: &[u64]) -> (Cell, Cell)
-    ensures { IsSpread values.now result.0 result.1 }
+/// The mean of values, if there are some.
+fn mean_cell(values: &[u64]) -> Cell
+    ensures { result ≡ mean_cell values.now }
 {
-    if values.is_empty() {
-        return (Cell::Nothing, Cell::Nothing);
+    if values.len() == 0 {
+        Cell::Nothing
+    } else {
+        Cell::Parts(mean_of(values))
     }
-    let mean = Cell::Parts(mean_of(values));
-    if values.len() == 1 {
-        return (mean, Cell::Nothing);
+}
+
+/// The deviation of values, if there are two or more.
+fn deviation_cell(values: &[u64]) -> Cell
+    ensures { IsDeviationCell values.now result }
+{
+    if values.len() < 2 {
+        Cell::Nothing
+    } else {
+        Cell::Parts(deviation_of(values))
     }
-    (mean, Cell::Parts(deviation_of(values)))
 }
 
 /// In how many runs nobody arrived in the last quarter of the ticks.
@@ -79,6 +87,20 @@ fn ticks_of(runs: &[Run]) -> u64
     }
 }
 
+/// Adds the mean and the deviation of a column.
+fn push_spread(
+    alloc: Global,
+    cells: &mut Vec<Cell>,
+    column: Column,
+    runs: &[Run],
+) -> Result<(), AllocError>
+    ensures { OnOk result ((mean : Cell) × (deviation : Cell) × IsSpread (values_of column runs.now) mean deviation × (cells.new.items ≡ cells.old.items ++ mean ∷ deviation ∷ [])) }
+{
+    let values = values_of(alloc, column, runs)?;
+    let (mean, deviation) = (mean_cell(&values), deviation_cell(&values));
+    cells.extend_from_slice(&[mean, deviation])
+}
+
 /// Adds the mean and the deviation of each of these columns.
 fn push_columns(
     alloc: Global,
@@ -89,10 +111,7 @@ fn push_columns(
     ensures { OnOk result ((more : List Cell) × AreSpreads columns.now runs.now more × (cells.new.items ≡ cells.old.items ++ more)) }
 {
     for column in columns {
-        let values = values_of(alloc, *column, runs)?;
-        let (mean, deviation) = spread_of(&values);
-        cells.push(mean)?;
-        cells.push(deviation)?;
+        push_spread(alloc, cells, *column, runs)?;
     }
     Ok(())
 }

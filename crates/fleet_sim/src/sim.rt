@@ -211,8 +211,11 @@ impl Sim {
     pub fn begin(&mut self) -> Result<(), SimFault>
         ensures { self.new.world.core.floor ≡ self.old.world.core.floor }
     {
-        for robot in 0..self.world.robots() {
-            self.send_on(robot as u32)?;
+        for robot in 0..MOST_ROBOTS {
+            if robot as usize >= self.world.robots() {
+                break;
+            }
+            self.send_on(robot)?;
         }
         Ok(())
     }

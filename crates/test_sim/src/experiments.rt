@@ -45,7 +45,9 @@ fn figures_of(
         sim.order().expect(rt, "errands");
     }
     let ended = sim.finish(alloc).expect(rt, "an end");
-    figures_after(alloc, &ended.grid, &ended.chapters, WARM_UP).expect(rt, "figures")
+    figures_after(alloc, &ended.grid, &ended.chapters, WARM_UP)
+        .ok()
+        .expect(rt, "figures")
 }
 
 /// The lines of one run, and of two.
