@@ -1,7 +1,8 @@
 //! The word `sim`.
 
-ghost use Rattle.std.specs.Prelude.{◌≡◌, ◌≤◌, ◌<◌, ◌^◌, IfOk, IfSome, All};
-ghost use Rattle.fleet_lib.specs.Sim.{IsSimPlan};
+ghost use Rattle.std.specs.Prelude.{◌≡◌, ◌≤◌, ◌<◌, ◌^◌, IfOk, IfSome};
+ghost use Rattle.fleet_text.specs.Transfer.{AppendsPrefix};
+ghost use Rattle.fleet_lib.specs.Sim.{IsSimPlan, sim_complaint, sim_word_status};
 
 use crate::planner::manner_in;
 use crate::words::SimJob;
@@ -159,14 +160,15 @@ pub fn sim_plan(alloc: Global, asked: &SimJob) -> Result<SimPlan, SimWordFault>
 }
 
 /// Prints what is wrong with the words. Returns the status.
-pub fn complain_of_sim<E: Write>(fault: SimWordFault, error: &mut E) -> u8 {
+pub fn complain_of_sim<E: Write>(fault: SimWordFault, error: &mut E) -> u8
+    ensures status { result ≡ sim_word_status fault }
+    ensures told { AppendsPrefix (E.contents error.old) (E.contents error.new) (sim_complaint fault) }
+{
     let text = match fault {
         SimWordFault::Robots => {
             "error: '--robots <LIST>' has to be given, as 64,128: numbers from 1 to 512\n"
         }
-        SimWordFault::Ticks => {
-            "error: '--ticks <N>' has to be given, and is from 1 to 1000000\n"
-        }
+        SimWordFault::Ticks => "error: '--ticks <N>' has to be given, and is from 1 to 1000000\n",
         SimWordFault::WarmUp => "error: invalid value for '--warm-up <N>'\n",
         SimWordFault::Seeds => "error: '--seeds <N>' is from 1 to 1000\n",
         SimWordFault::Planner => "error: invalid value for '--planner <NAME>'\n",

@@ -1,10 +1,8 @@
 //! Runs of the word `sim`, and their table.
 
-ghost use Rattle.std.specs.Prelude.{◌≡◌, IfOk, IfErr, IfSome, OnOk, map};
-ghost use Rattle.fleet_grid.specs.Floor.{floor_of_map};
-ghost use Rattle.fleet_map.specs.Form.{HasSides};
-ghost use Rattle.fleet_map.specs.Grammar.{view};
-ghost use Rattle.fleet_lib.specs.Sim.{IsFloorOf, IsPlayed};
+ghost use Rattle.std.specs.Prelude.{◌≡◌, IfOk, string_bytes};
+ghost use Rattle.fleet_lib.specs.Said.{said_of};
+ghost use Rattle.fleet_lib.specs.Sim.{IsFloorOf, IsPlayed, trouble_status, trouble_text, troubled};
 
 use crate::check::{printed, refused};
 use crate::said::Said;
@@ -162,29 +160,46 @@ pub fn end_sim(alloc: Global, sim: Sim, clock: u64) -> Result<Played, SimTrouble
     }
 }
 
-/// The line of a trouble, and the status.
-fn line_of_trouble(alloc: Global, trouble: SimTrouble) -> Result<(String, u8), AllocError> {
-    Ok(match trouble {
+/// How a trouble is named.
+fn trouble_text(alloc: Global, trouble: SimTrouble) -> Result<String, AllocError>
+    ensures { IfOk result (λ text. string_bytes text ≡ trouble_text trouble) }
+{
+    match trouble {
         SimTrouble::Map(fault) => {
             let complaint = Complaint::Map(fault);
-            (format!(in alloc; "fleet: {complaint}\n")?, 4)
+            format!(in alloc; "{complaint}")
         }
-        SimTrouble::Cells(line) => (format!(in alloc; "fleet: cells {line}\n")?, 5),
-        SimTrouble::Floor(robots) => (
-            format!(in alloc; "fleet: robots {robots} too many for the floor\n")?,
-            4,
-        ),
-        SimTrouble::Turns => (String::from_str(alloc, "fleet: turns\n")?, 6),
-        SimTrouble::Full => (String::from_str(alloc, "fleet: history full\n")?, 6),
-        SimTrouble::Illegal => (String::from_str(alloc, "fleet: history illegal\n")?, 6),
-        SimTrouble::NoMemory => (String::from_str(alloc, "fleet: memory\n")?, 7),
-    })
+        SimTrouble::Cells(line) => format!(in alloc; "cells {line}"),
+        SimTrouble::Floor(robots) => format!(in alloc; "robots {robots} too many for the floor"),
+        SimTrouble::Turns => String::from_str(alloc, "turns"),
+        SimTrouble::Full => String::from_str(alloc, "history full"),
+        SimTrouble::Illegal => String::from_str(alloc, "history illegal"),
+        SimTrouble::NoMemory => String::from_str(alloc, "memory"),
+    }
+}
+
+/// The status of a trouble.
+fn trouble_status(trouble: SimTrouble) -> u8
+    ensures { result ≡ trouble_status trouble }
+{
+    match trouble {
+        SimTrouble::Map(_) => 4,
+        SimTrouble::Floor(_) => 4,
+        SimTrouble::Cells(_) => 5,
+        SimTrouble::Turns => 6,
+        SimTrouble::Full => 6,
+        SimTrouble::Illegal => 6,
+        SimTrouble::NoMemory => 7,
+    }
 }
 
 /// The answer where there is no table.
-pub fn answer_trouble(alloc: Global, trouble: SimTrouble) -> Result<Said, AllocError> {
-    let (line, status) = line_of_trouble(alloc, trouble)?;
-    Ok(refused(alloc, line, status))
+pub fn answer_trouble(alloc: Global, trouble: SimTrouble) -> Result<Said, AllocError>
+    ensures { IfOk result (λ s. said_of s ≡ troubled trouble) }
+{
+    let text = trouble_text(alloc, trouble)?;
+    let line = format!(in alloc; "fleet: {text}\n")?;
+    Ok(refused(alloc, line, trouble_status(trouble)))
 }
 
 /// The answer with a table.
