@@ -66,7 +66,10 @@ fn now<R: Clock>(rt: &R, timed: bool) -> Option<Instant> {
 /// The nanoseconds between two times; 0 if one is not known.
 fn nanos_between(from: Option<Instant>, to: Option<Instant>) -> u64 {
     match (from, to) {
-        (Some(from), Some(to)) => to.duration_since(from).as_nanos() as u64,
+        (Some(from), Some(to)) => {
+            let nanos = to.duration_since(from).as_nanos();
+            nanos.min(18_446_744_073_709_551_615) as u64
+        }
         _ => 0,
     }
 }
@@ -143,7 +146,7 @@ fn keep<'a, R: Files + Alloc<A = Global>>(
     folder: &'a Option<String>,
     played: &Played,
 ) -> Result<(), Failure<'a>> {
-    let (Some(folder), Some(chapter)) = (folder, played.chapters.first()) else {
+    let (Some(folder), Some(chapter)) = (folder, played.ended.chapters.first()) else {
         return Ok(());
     };
     let text = trace_line(rt.alloc(), chapter)?;

@@ -1,5 +1,5 @@
 -- The words that the program takes.
-use Rattle.std.specs.Prelude.{[], ◌∷◌, true, codes}
+use Rattle.std.specs.Prelude.{List, [], ◌∷◌, true, codes}
 use Rattle.clap.specs.Words.{App, new_app, new_rule}
 use Rattle.command_words.specs.Table.{file_rule, files_rule, flag_rule, value_rule, values_rule, required_value_rule, number_rule, with_rules, program_top, with_words}
 
@@ -59,6 +59,10 @@ sim_app = with_rules (new_app (codes "sim"))
     (value_rule (codes "robots") ∷ value_rule (codes "ticks") ∷ value_rule (codes "warm-up") ∷ value_rule (codes "seeds") ∷ value_rule (codes "cells") ∷ flag_rule (codes "roomy") ∷ value_rule (codes "planner")
     ∷ value_rule (codes "traces") ∷ flag_rule (codes "times") ∷ flag_rule (codes "csv") ∷ flag_rule (codes "json") ∷ file_rule (codes "MAP") ∷ [])
 
+-- the words of fleet
+abbrev pub word_apps : List App
+word_apps = view_app ∷ check_app ∷ talk_app ∷ convert_app ∷ explain_app ∷ live_app ∷ stats_app ∷ judge_app ∷ map_app ∷ execute_app ∷ sim_app ∷ []
+
 -- fleet, which tells its version and wants a word
 abbrev pub fleet_app : App
-fleet_app = with_words (program_top (codes "fleet") true) (view_app ∷ check_app ∷ talk_app ∷ convert_app ∷ explain_app ∷ live_app ∷ stats_app ∷ judge_app ∷ map_app ∷ execute_app ∷ sim_app ∷ [])
+fleet_app = with_words (program_top (codes "fleet") true) word_apps

@@ -3,11 +3,10 @@ use Rattle.std.specs.Prelude.{◌≡◌, ℕ, ◌≤◌, List, [], ◌++◌, map
 use Rattle.std.specs.declared.alloc.Global.{Global}
 use Rattle.fleet_map.specs.Grammar.{Map, map_of}
 use Rattle.fleet_grid.specs.Floor.{Floor, floor_of_map}
-use Rattle.fleet_trace.specs.Trace.{Trace, trace_of}
+use Rattle.fleet_trace.specs.Trace.{trace_of}
 use Rattle.fleet_core.specs.Core.{World}
 use Rattle.fleet_stats.specs.Later.{AreLater}
 use Rattle.fleet_sim.specs.Sim.{IsEnd}
-use Rattle.fleet_sim.specs.declared.sim.Ended.{Ended}
 use Rattle.fleet_lib.specs.declared.sim.SimPlan.{SimPlan}
 use Rattle.fleet_text.specs.declared.said.Complaint.TheVariants as complaint
 use Rattle.fleet_text.specs.Complaint.{complaint_text}
@@ -68,9 +67,7 @@ pub record IsFloorOf (map : List ℕ) (m : Floor) : Type 0 where
   pub read : map_of map ≡ Ok floor
   pub is : m ≡ floor_of_map floor
 
--- a run's history, which is legal on its map, and the figures that this history says, after a clock
+-- what a run leaves, and the figures that its history says, after a clock
 pub record IsPlayed (w : World Global) (clock : ℕ) (p : Played) : Type 0 where
-  pub ended : Ended
-  pub is : IsEnd w ended
-  pub chapters : map trace_of p.chapters.items ≡ map trace_of ended.chapters.items
-  pub figures : AreLater w.floor (map trace_of p.chapters.items) clock p.figures
+  pub ended : IsEnd w p.ended
+  pub figures : AreLater p.ended.grid (map trace_of p.ended.chapters.items) clock p.figures

@@ -7,7 +7,6 @@ ghost use Rattle.fleet_lib.specs.Sim.{IsFloorOf, IsPlayed, trouble_status, troub
 use crate::check::{printed, refused};
 use crate::said::Said;
 use fleet_grid::Grid;
-use fleet_history::Chapter;
 use fleet_map::{MapFault, read_map};
 use fleet_sim::{Ended, Line, Setting, Sim, SimFault, TableForm, table_text};
 use fleet_stats::{LaterFigures, StatsFault, figures_after};
@@ -55,10 +54,10 @@ impl From<AllocError> for SimTrouble {
     }
 }
 
-/// A run that has ended: its history, and its figures.
+/// A run that has ended, and its figures.
 #[derive(Drop)]
 pub struct Played {
-    pub chapters: Vec<Chapter>,
+    pub ended: Ended,
     pub figures: LaterFigures,
 }
 
@@ -152,9 +151,9 @@ pub fn open_sim(
 pub fn end_sim(alloc: Global, sim: Sim, clock: u64) -> Result<Played, SimTrouble>
     ensures { IfOk result (IsPlayed sim.world.core clock) }
 {
-    let Ended { grid, chapters } = sim.finish(alloc)?;
-    match figures_after(alloc, &grid, &chapters, clock) {
-        Ok(figures) => Ok(Played { chapters, figures }),
+    let ended = sim.finish(alloc)?;
+    match figures_after(alloc, &ended.grid, &ended.chapters, clock) {
+        Ok(figures) => Ok(Played { ended, figures }),
         Err(StatsFault::NoMemory) => Err(SimTrouble::NoMemory),
         Err(_) => Err(SimTrouble::Illegal),
     }

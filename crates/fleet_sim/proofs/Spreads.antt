@@ -19,8 +19,8 @@ pub next : (cs : List Column) (i : ℕ) (d x : Column) (runs : List Run) (fn old
 next cs i d x runs fn old more less is made before =
     let split : drop i cs ≡ x ∷ drop (i + 1) cs = drop_more cs i d less ∙ ap (λ (y : Column). y ∷ drop (i + 1) cs) is in
     λ rest h.
-      let found = before (made.0 ∷ made.1 ∷ rest) (rw split (made.2, h)) in
-      (found.0, found.1, found.2 ∙ sym (append_assoc old (made.0 ∷ made.1 ∷ []) rest) ∙ ap (λ (some : List Cell). some ++ rest) (sym made.3))
+    let found = before (made.0 ∷ made.1 ∷ rest) (rw split (made.2, h)) in
+    (found.0, found.1, found.2 ∙ sym (append_assoc old (made.0 ∷ made.1 ∷ []) rest) ∙ ap (λ (some : List Cell). some ++ rest) (sym made.3))
 
 pub finished : (cs : List Column) (i : ℕ) (runs : List Run) (fn cells : List Cell) → length cs ≤ i → Completes cs runs fn (drop i cs) cells → (all : List Cell) × AreSpreads cs runs all × (cells ≡ fn ++ all)
 finished cs i runs fn cells past before =

@@ -209,6 +209,8 @@ impl Sim {
 
     /// Gives each robot its first errand, robot by robot.
     pub fn begin(&mut self) -> Result<(), SimFault>
+        // Of each call: the checker lets closures go to another crate only in a call with a `requires`.
+        requires { 0 ≤ self.old.world.core.number }
         ensures { self.new.world.core.floor ≡ self.old.world.core.floor }
     {
         for robot in 0..MOST_ROBOTS {
@@ -222,6 +224,8 @@ impl Sim {
 
     /// Gives each robot that has arrived its next errand, in the order of the notices.
     pub fn order(&mut self) -> Result<(), SimFault>
+        // Of each call: the checker lets closures go to another crate only in a call with a `requires`.
+        requires { 0 ≤ self.old.world.core.number }
         ensures { self.new.world.core.floor ≡ self.old.world.core.floor }
     {
         for _ in 0..LIMITS.mailbox {

@@ -13,7 +13,7 @@ use crate::words::explain::{Explain, explain_in};
 use crate::words::judge::{Judge, judge_in};
 use crate::words::live::{Live, live_in};
 use crate::words::map::{MapJob, map_in};
-use crate::words::program::program;
+use crate::words::program::{fleet_words, program};
 use crate::words::sim::{SimJob, sim_in};
 use crate::words::stats::{Stats, stats_in};
 use crate::words::talk::{Talk, talk_in};
@@ -84,7 +84,8 @@ pub fn parse_words(alloc: Global, words: &[String]) -> Result<Job, WordFault>
     // words that `clap` takes are refused only where memory runs out
     ensures refused { IfErr result (λ f. takes fleet_app (map (λ w. string_bytes w) words.now) ≡ true → f ≡ NoMemory) }
 {
-    match matches_for(alloc, &program(), words) {
+    let known = fleet_words();
+    match matches_for(alloc, &program(&known), words) {
         Ok(matches) => Ok(job_from(alloc, &matches)?),
         Err(fault) => Err(fault),
     }
