@@ -36,8 +36,13 @@ sim_complaint word.Form = codes "error: '--csv' and '--json' go without each oth
 sim_complaint word.NoMemory = codes "fleet: memory\n"
 
 abbrev pub sim_word_status : SimWordFault → ℕ
+sim_word_status word.Robots = 2
+sim_word_status word.Ticks = 2
+sim_word_status word.WarmUp = 2
+sim_word_status word.Seeds = 2
+sim_word_status word.Planner = 2
+sim_word_status word.Form = 2
 sim_word_status word.NoMemory = 7
-sim_word_status _ = 2
 
 -- how a trouble is named
 abbrev pub trouble_text : SimTrouble → List ℕ

@@ -164,20 +164,21 @@ pub fn complain_of_sim<E: Write>(fault: SimWordFault, error: &mut E) -> u8
     ensures status { result ≡ sim_word_status fault }
     ensures told { AppendsPrefix (E.contents error.old) (E.contents error.new) (sim_complaint fault) }
 {
-    let text = match fault {
-        SimWordFault::Robots => {
-            "error: '--robots <LIST>' has to be given, as 64,128: numbers from 1 to 512\n"
-        }
-        SimWordFault::Ticks => "error: '--ticks <N>' has to be given, and is from 1 to 1000000\n",
-        SimWordFault::WarmUp => "error: invalid value for '--warm-up <N>'\n",
-        SimWordFault::Seeds => "error: '--seeds <N>' is from 1 to 1000\n",
-        SimWordFault::Planner => "error: invalid value for '--planner <NAME>'\n",
-        SimWordFault::Form => "error: '--csv' and '--json' go without each other\n",
-        SimWordFault::NoMemory => "fleet: memory\n",
+    let (text, status) = match fault {
+        SimWordFault::Robots => (
+            "error: '--robots <LIST>' has to be given, as 64,128: numbers from 1 to 512\n",
+            2,
+        ),
+        SimWordFault::Ticks => (
+            "error: '--ticks <N>' has to be given, and is from 1 to 1000000\n",
+            2,
+        ),
+        SimWordFault::WarmUp => ("error: invalid value for '--warm-up <N>'\n", 2),
+        SimWordFault::Seeds => ("error: '--seeds <N>' is from 1 to 1000\n", 2),
+        SimWordFault::Planner => ("error: invalid value for '--planner <NAME>'\n", 2),
+        SimWordFault::Form => ("error: '--csv' and '--json' go without each other\n", 2),
+        SimWordFault::NoMemory => ("fleet: memory\n", 7),
     };
     write_whole(error, text.as_bytes());
-    match fault {
-        SimWordFault::NoMemory => 7,
-        _ => 2,
-    }
+    status
 }

@@ -108,7 +108,7 @@ pub(crate) fn fleet_words() -> [Word<'static>; 11]
 
 /// The program with its words.
 pub(crate) fn program<'a>(words: &'a [Word<'a>]) -> Program<'a>
-    requires { map word_app words.entry.now ≡ word_apps }
+    requires { map word_app words.now ≡ word_apps }
     ensures { program_app result ≡ fleet_app }
 {
     Program {
