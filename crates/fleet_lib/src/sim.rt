@@ -159,26 +159,37 @@ pub fn sim_plan(alloc: Global, asked: &SimJob) -> Result<SimPlan, SimWordFault>
     })
 }
 
+/// The status of words that are wrong.
+fn word_status(fault: SimWordFault) -> u8
+    ensures { result ≡ sim_word_status fault }
+{
+    match fault {
+        SimWordFault::Robots => 2,
+        SimWordFault::Ticks => 2,
+        SimWordFault::WarmUp => 2,
+        SimWordFault::Seeds => 2,
+        SimWordFault::Planner => 2,
+        SimWordFault::Form => 2,
+        SimWordFault::NoMemory => 7,
+    }
+}
+
 /// Prints what is wrong with the words. Returns the status.
 pub fn complain_of_sim<E: Write>(fault: SimWordFault, error: &mut E) -> u8
     ensures status { result ≡ sim_word_status fault }
     ensures told { AppendsPrefix (E.contents error.old) (E.contents error.new) (sim_complaint fault) }
 {
-    let (text, status) = match fault {
-        SimWordFault::Robots => (
-            "error: '--robots <LIST>' has to be given, as 64,128: numbers from 1 to 512\n",
-            2,
-        ),
-        SimWordFault::Ticks => (
-            "error: '--ticks <N>' has to be given, and is from 1 to 1000000\n",
-            2,
-        ),
-        SimWordFault::WarmUp => ("error: invalid value for '--warm-up <N>'\n", 2),
-        SimWordFault::Seeds => ("error: '--seeds <N>' is from 1 to 1000\n", 2),
-        SimWordFault::Planner => ("error: invalid value for '--planner <NAME>'\n", 2),
-        SimWordFault::Form => ("error: '--csv' and '--json' go without each other\n", 2),
-        SimWordFault::NoMemory => ("fleet: memory\n", 7),
+    let text = match fault {
+        SimWordFault::Robots => {
+            "error: '--robots <LIST>' has to be given, as 64,128: numbers from 1 to 512\n"
+        }
+        SimWordFault::Ticks => "error: '--ticks <N>' has to be given, and is from 1 to 1000000\n",
+        SimWordFault::WarmUp => "error: invalid value for '--warm-up <N>'\n",
+        SimWordFault::Seeds => "error: '--seeds <N>' is from 1 to 1000\n",
+        SimWordFault::Planner => "error: invalid value for '--planner <NAME>'\n",
+        SimWordFault::Form => "error: '--csv' and '--json' go without each other\n",
+        SimWordFault::NoMemory => "fleet: memory\n",
     };
     write_whole(error, text.as_bytes());
-    status
+    word_status(fault)
 }
