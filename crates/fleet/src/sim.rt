@@ -3,10 +3,12 @@
 use crate::chapters::keep_chapter;
 use crate::ends::{FileFault, MOST_MAP_BYTES, complain, file_bytes};
 use fleet_lib::{
-    InputFault, Line, MOST_PLAN_BYTES, Played, Run, Said, Sim, SimFault, SimJob, SimPlan, SimRun,
-    SimTrouble, Times, answer_sim, answer_trouble, complain_of_sim, end_sim, fail, line_of,
-    open_sim, ranked, sim_plan, tell, trace_line, trouble_of,
+    InputFault, MOST_PLAN_BYTES, Played, Said, SimJob, SimPlan, SimRun, SimTrouble, answer_sim,
+    answer_trouble, complain_of_sim, end_sim, fail, open_sim, sim_plan, tell, trace_line,
+    trouble_of,
 };
+use fleet_sim::{Line, Run, Sim, SimFault, Times, line_of};
+use fleet_stats::ranked;
 use std::alloc::{Alloc, AllocError, Global};
 use std::fs::Files;
 use std::io::Write;
