@@ -71,4 +71,4 @@ program_top name needs_word = let app = new_app name in record app { top = recor
 
 -- a program with its words
 abbrev pub program_app : Program → App
-program_app program = with_words (with_words (program_top program.name.now program.needs_word) (map word_app program.words.now)) (map word_app program.more.now)
+program_app program = with_words (program_top program.name.now program.needs_word) (map word_app program.words.now)

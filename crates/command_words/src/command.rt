@@ -136,6 +136,5 @@ pub(crate) fn command_of<'a>(
     ensures { IfOk result (λ c. app_of c ≡ program_app program.now) }
 {
     let command = with_words(alloc, bare_program(alloc, program), program.words)?;
-    let command = with_words(alloc, command, program.more)?;
     called(command, program.name)
 }

@@ -49,6 +49,4 @@ pub struct Program<'a> {
     /// Whether one of the words has to be given.
     pub needs_word: bool,
     pub words: &'a [Word<'a>],
-    /// The words after these: a proof has a table whole at each step, so a long one is in two parts.
-    pub more: &'a [Word<'a>],
 }

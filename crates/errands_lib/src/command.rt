@@ -85,7 +85,6 @@ const ERRANDS: Program<'static> = Program {
     ),
     needs_word: false,
     words: &[MAP, RUN, JUDGE, SERVE],
-    more: &[],
 };
 
 /// The program with its words. Only this function names the constant, since a proof has it at each step of the

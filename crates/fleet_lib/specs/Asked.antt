@@ -26,6 +26,7 @@ use Rattle.fleet_lib.specs.declared.words.stats.Stats.{Stats as StatsJob}
 use Rattle.fleet_lib.specs.declared.words.judge.Judge.{Judge as JudgeJob}
 use Rattle.fleet_lib.specs.declared.words.map.MapJob.{MapJob}
 use Rattle.fleet_lib.specs.declared.words.execute.Execute.{Execute as ExecuteJob}
+use Rattle.fleet_lib.specs.declared.words.sim.SimJob.{SimJob}
 use Rattle.fleet_lib.specs.declared.words.job.Job.{Job}
 use Rattle.fleet_lib.specs.declared.words.job.Job.TheVariants as job
 
@@ -191,6 +192,21 @@ pub record IsExecute (rows : List Row) (execute : ExecuteJob) : Type 0 where
   pub floor : first_of (codes "MAP") rows ≡ Some (string_bytes execute.map)
   pub plan : first_of (codes "PLAN") rows ≡ Some (string_bytes execute.plan)
 
+-- what the words after `sim` ask for
+pub record IsSimJob (rows : List Row) (asked : SimJob) : Type 0 where
+  pub floor : first_of (codes "MAP") rows ≡ Some (string_bytes asked.map)
+  pub robots : first_of (codes "robots") rows ≡ option_map (λ s. string_bytes s) asked.robots
+  pub ticks : first_of (codes "ticks") rows ≡ option_map (λ s. string_bytes s) asked.ticks
+  pub warm_up : first_of (codes "warm-up") rows ≡ option_map (λ s. string_bytes s) asked.warm_up
+  pub seeds : first_of (codes "seeds") rows ≡ option_map (λ s. string_bytes s) asked.seeds
+  pub cells : first_of (codes "cells") rows ≡ option_map (λ s. string_bytes s) asked.cells
+  pub roomy : asked.roomy ≡ has_flag (codes "roomy") rows
+  pub planner : first_of (codes "planner") rows ≡ option_map (λ s. string_bytes s) asked.planner
+  pub traces : first_of (codes "traces") rows ≡ option_map (λ s. string_bytes s) asked.traces
+  pub times : asked.times ≡ has_flag (codes "times") rows
+  pub csv : asked.csv ≡ has_flag (codes "csv") rows
+  pub json : asked.json ≡ has_flag (codes "json") rows
+
 -- the job of a subcommand and the words that stand for its arguments
 abbrev pub IsJobOf : Option (Text × List Row) → Job → Type 0
 IsJobOf found (job.View view) = (rows : List Row) × (found ≡ Some (codes "view", rows)) × IsView rows view
@@ -203,3 +219,4 @@ IsJobOf found (job.Stats stats) = (rows : List Row) × (found ≡ Some (codes "s
 IsJobOf found (job.Judge judge) = (rows : List Row) × (found ≡ Some (codes "judge", rows)) × IsJudge rows judge
 IsJobOf found (job.Map asked) = (rows : List Row) × (found ≡ Some (codes "map", rows)) × IsMapJob rows asked
 IsJobOf found (job.Execute execute) = (rows : List Row) × (found ≡ Some (codes "execute", rows)) × IsExecute rows execute
+IsJobOf found (job.Sim asked) = (rows : List Row) × (found ≡ Some (codes "sim", rows)) × IsSimJob rows asked

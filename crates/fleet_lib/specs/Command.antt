@@ -53,12 +53,16 @@ abbrev pub execute_app : App
 execute_app = with_rules (new_app (codes "execute"))
     (value_rule (codes "clearance") ∷ number_rule (codes "ahead") ∷ value_rule (codes "form") ∷ file_rule (codes "MAP") ∷ file_rule (codes "PLAN") ∷ [])
 
-abbrev pub first_apps : List App
-first_apps = view_app ∷ check_app ∷ talk_app ∷ convert_app ∷ explain_app ∷ live_app ∷ []
+-- sim --robots LIST --ticks N [--warm-up N] [--seeds N] [--cells FILE] [--roomy] [--planner NAME] [--traces DIR] [--times] [--csv] [--json] MAP
+abbrev pub sim_app : App
+sim_app = with_rules (new_app (codes "sim"))
+    (value_rule (codes "robots") ∷ value_rule (codes "ticks") ∷ value_rule (codes "warm-up") ∷ value_rule (codes "seeds") ∷ value_rule (codes "cells") ∷ flag_rule (codes "roomy") ∷ value_rule (codes "planner")
+    ∷ value_rule (codes "traces") ∷ flag_rule (codes "times") ∷ flag_rule (codes "csv") ∷ flag_rule (codes "json") ∷ file_rule (codes "MAP") ∷ [])
 
-abbrev pub last_apps : List App
-last_apps = stats_app ∷ judge_app ∷ map_app ∷ execute_app ∷ []
+-- the words of fleet
+abbrev pub word_apps : List App
+word_apps = view_app ∷ check_app ∷ talk_app ∷ convert_app ∷ explain_app ∷ live_app ∷ stats_app ∷ judge_app ∷ map_app ∷ execute_app ∷ sim_app ∷ []
 
 -- fleet, which tells its version and wants a word
 abbrev pub fleet_app : App
-fleet_app = with_words (with_words (program_top (codes "fleet") true) first_apps) last_apps
+fleet_app = with_words (program_top (codes "fleet") true) word_apps

@@ -20,6 +20,8 @@ mod planner;
 mod recalling;
 mod recovering;
 mod said;
+mod sim;
+mod simulating;
 mod stats;
 mod talk;
 mod talk_words;
@@ -53,11 +55,15 @@ pub use recovering::{
     JournalText, RecoverFault, Recovered, has_whole_line, recover_journal, recover_line,
 };
 pub use said::{Said, fail, tell};
+pub use sim::{SimPlan, SimWordFault, complain_of_sim, sim_plan};
+pub use simulating::{
+    Played, SimRun, SimTrouble, answer_sim, answer_trouble, end_sim, open_sim, trouble_of,
+};
 pub use stats::answer_stats;
 pub use talk::{TalkTexts, run_talk};
 pub use talk_words::{TalkWordFault, complain_of_talk, talk_settings};
 pub use view::{MOST_TRACE_BYTES, answer_view};
 pub use words::{
-    Check, Convert, Execute, Explain, Figures, FormAsked, Job, Judge, Live, MapJob, Shown, Stats,
-    Talk, Target, View, WordFault, parse_words,
+    Check, Convert, Execute, Explain, Figures, FormAsked, Job, Judge, Live, MapJob, Shown, SimJob,
+    Stats, Talk, Target, View, WordFault, parse_words,
 };
