@@ -53,6 +53,11 @@ abbrev pub execute_app : App
 execute_app = with_rules (new_app (codes "execute"))
     (value_rule (codes "clearance") ∷ number_rule (codes "ahead") ∷ value_rule (codes "form") ∷ file_rule (codes "MAP") ∷ file_rule (codes "PLAN") ∷ [])
 
+-- change --traces DIR --to OUT [--renumber] [--dry-run] MAP CHANGE..
+abbrev pub change_app : App
+change_app = with_rules (new_app (codes "change"))
+    (required_value_rule (codes "traces") ∷ required_value_rule (codes "to") ∷ flag_rule (codes "renumber") ∷ flag_rule (codes "dry-run") ∷ file_rule (codes "MAP") ∷ files_rule (codes "CHANGE") ∷ [])
+
 -- fleet, which tells its version and wants a word
 abbrev pub fleet_app : App
-fleet_app = with_words (program_top (codes "fleet") true) (view_app ∷ check_app ∷ talk_app ∷ convert_app ∷ explain_app ∷ live_app ∷ stats_app ∷ judge_app ∷ map_app ∷ execute_app ∷ [])
+fleet_app = with_words (program_top (codes "fleet") true) (view_app ∷ check_app ∷ talk_app ∷ convert_app ∷ explain_app ∷ live_app ∷ stats_app ∷ judge_app ∷ map_app ∷ execute_app ∷ change_app ∷ [])

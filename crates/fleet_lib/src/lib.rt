@@ -2,6 +2,7 @@
 //! own.
 #![tactic(auto)]
 
+mod change;
 mod chapter_bytes;
 mod check;
 mod convert;
@@ -19,13 +20,16 @@ mod plan_trace;
 mod planner;
 mod recalling;
 mod recovering;
+mod renumbering;
 mod said;
+mod sites;
 mod stats;
 mod talk;
 mod talk_words;
 mod view;
 mod words;
 
+pub use change::{ChangeTexts, Changed, change_site};
 pub use check::{PlanRules, answer_check};
 pub use convert::answer_convert;
 pub use execute::{ExecuteTexts, run_execute};
@@ -45,7 +49,7 @@ pub use judge::{Judgement, answer_judge};
 pub use kept::{KeptFault, KeptText};
 pub use live::run_live;
 pub use map::{MapForm, answer_map};
-pub use names::{Named, NamesFault, journal_named, last_chapter};
+pub use names::{Named, NamesFault, chapter_named, journal_named, last_chapter, site_named};
 pub use pipes::pipe_names;
 pub use plan_trace::{Traced, answer_trace, as_trace};
 pub use recalling::{recall_in, recall_trace};
@@ -53,11 +57,12 @@ pub use recovering::{
     JournalText, RecoverFault, Recovered, has_whole_line, recover_journal, recover_line,
 };
 pub use said::{Said, fail, tell};
+pub use sites::{Before, SiteTrouble, changed_map, check_site, site_line};
 pub use stats::answer_stats;
 pub use talk::{TalkTexts, run_talk};
 pub use talk_words::{TalkWordFault, complain_of_talk, talk_settings};
 pub use view::{MOST_TRACE_BYTES, answer_view};
 pub use words::{
-    Check, Convert, Execute, Explain, Figures, FormAsked, Job, Judge, Live, MapJob, Shown, Stats,
+    ChangeJob, Check, Convert, Execute, Explain, Figures, FormAsked, Job, Judge, Live, MapJob, Shown, Stats,
     Talk, Target, View, WordFault, parse_words,
 };

@@ -4,6 +4,7 @@ ghost use Rattle.std.specs.Prelude.{◌≡◌};
 ghost use Rattle.command_words.specs.Table.{program_app};
 ghost use Rattle.fleet_lib.specs.Command.{fleet_app};
 
+use crate::words::change::CHANGE;
 use crate::words::check::CHECK;
 use crate::words::convert::CONVERT;
 use crate::words::execute::EXECUTE;
@@ -27,7 +28,7 @@ pub(crate) const FLEET: Program<'static> = Program {
     note: None,
     needs_word: true,
     words: &[
-        VIEW, CHECK, TALK, CONVERT, EXPLAIN, LIVE, STATS, JUDGE, MAP_WORD, EXECUTE,
+        VIEW, CHECK, TALK, CONVERT, EXPLAIN, LIVE, STATS, JUDGE, MAP_WORD, EXECUTE, CHANGE,
     ],
 };
 
