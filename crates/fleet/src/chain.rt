@@ -5,7 +5,7 @@ use crate::folder::{FolderFault, names_in};
 use crate::kept_file::{KeptFile, file_named};
 use crate::sites::{site_name, site_until};
 use fleet_lib::{
-    Before, InputFault, Named, SiteTrouble, chapter_named, changed_map, check_site, fail,
+    Before, InputFault, Named, Said, SiteTrouble, changed_map, chapter_named, check_site, fail,
     site_line, write_whole,
 };
 use std::alloc::{Alloc, AllocError, Global};
@@ -232,12 +232,22 @@ fn broken_line(alloc: Global, broken: Broken) -> Result<(String, u8), AllocError
     }
 }
 
-/// Prints why a chapter is not looked at. Returns the status: 3 its record cannot be read, 6 it is refused, 7 memory ran out.
+/// What is said where a chapter is not looked at. The status is 3 if its record cannot be read, and 6 if it is refused.
+pub(crate) fn broken_said(alloc: Global, broken: Broken) -> Result<Said, AllocError> {
+    let (complaint, status) = broken_line(alloc, broken)?;
+    Ok(Said {
+        output: Vec::new(alloc),
+        status,
+        complaint,
+    })
+}
+
+/// Prints why a chapter is not looked at. Returns the status: that of `broken_said`, or 7 where memory ran out.
 pub(crate) fn complain_of_broken<E: Write>(alloc: Global, broken: Broken, error: &mut E) -> u8 {
-    match broken_line(alloc, broken) {
-        Ok((line, status)) => {
-            write_whole(error, line.as_bytes());
-            status
+    match broken_said(alloc, broken) {
+        Ok(said) => {
+            write_whole(error, said.complaint.as_bytes());
+            said.status
         }
         Err(AllocError) => fail(InputFault::NoMemory, error),
     }

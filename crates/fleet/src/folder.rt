@@ -137,11 +137,7 @@ fn is_chapter(name: &str) -> bool {
 }
 
 /// What is wrong with the names of a folder's files.
-fn fault_of(
-    alloc: Global,
-    fault: NamesFault,
-    names: &[String],
-) -> Result<FolderFault, AllocError> {
+fn fault_of(alloc: Global, fault: NamesFault, names: &[String]) -> Result<FolderFault, AllocError> {
     match fault {
         NamesFault::Unreadable(at) => match names.get(at) {
             Some(name) => Ok(FolderFault::Unreadable(String::from_str(alloc, name.as_str())?)),

@@ -82,10 +82,7 @@ fn changes_in(
 fn laws_of(chapter: &Chapter) -> (StampLaw, StampLaw) {
     match chapter.opening.robots.as_slice().first() {
         Some(robot) => (robot.arrival_law, robot.farewell_law),
-        None => (
-            StampLaw { low: 0, high: 0 },
-            StampLaw { low: 0, high: 0 },
-        ),
+        None => (StampLaw { low: 0, high: 0 }, StampLaw { low: 0, high: 0 }),
     }
 }
 
@@ -113,7 +110,9 @@ fn refused_line(alloc: Global, fault: RefitFault) -> Result<String, AllocError> 
             let (code, name) = code_of(fault);
             let number = (place as u64).saturating_add(1);
             if let ChangeFault::IsTaken { robot } = fault {
-                return format!(in alloc; "change-refused {code} {name} change {number} robot {robot}\n");
+                return format!(in alloc;
+                    "change-refused {code} {name} change {number} robot {robot}\n"
+                );
             }
             format!(in alloc; "change-refused {code} {name} change {number}\n")
         }
@@ -127,7 +126,10 @@ fn push_dropped(text: &mut String, dropped: &[Dropped]) -> Result<(), AllocError
     for one in dropped {
         let (client, number) = (one.client, one.number);
         let (robot, cell) = (one.robot, one.cell);
-        write!(text, "dropped {client} {number} robot {robot} cell {cell}\n")?;
+        write!(
+            text,
+            "dropped {client} {number} robot {robot} cell {cell}\n"
+        )?;
     }
     Ok(())
 }
@@ -139,7 +141,10 @@ fn changed(alloc: Global, made: Made, moved: &[u32]) -> Result<Changed, AllocErr
     push_numbers(&mut said, moved, &made.refit.numbers)?;
     let (count, dropped) = (made.record.changes.len(), made.refit.dropped.len());
     let chapter = made.record.chapter;
-    write!(&mut said, "changed {count} dropped {dropped} chapter {chapter}\n")?;
+    write!(
+        &mut said,
+        "changed {count} dropped {dropped} chapter {chapter}\n"
+    )?;
     let map = map_text(alloc, &made.refit.grid)?;
     let site = write_site(alloc, &made.record)?;
     let next = Chapter {
@@ -188,10 +193,7 @@ fn changes_made(
 }
 
 /// The record of the changes before, if there were any.
-fn record_before(
-    alloc: Global,
-    texts: ChangeTexts<'_>,
-) -> Result<Option<SiteRecord>, Refusal> {
+fn record_before(alloc: Global, texts: ChangeTexts<'_>) -> Result<Option<SiteRecord>, Refusal> {
     match texts.site {
         None => Ok(None),
         Some(site) => match record_on(alloc, texts.map, site) {
@@ -202,11 +204,7 @@ fn record_before(
 }
 
 /// The line that says why no changes are made, and the status.
-fn refusal_line(
-    alloc: Global,
-    name: &str,
-    refusal: Refusal,
-) -> Result<(String, u8), AllocError> {
+fn refusal_line(alloc: Global, name: &str, refusal: Refusal) -> Result<(String, u8), AllocError> {
     match refusal {
         Refusal::Site(trouble) => Ok((site_line(alloc, name, trouble)?, 6)),
         Refusal::Robots => Ok((

@@ -63,6 +63,6 @@ pub use talk::{TalkTexts, run_talk};
 pub use talk_words::{TalkWordFault, complain_of_talk, talk_settings};
 pub use view::{MOST_TRACE_BYTES, answer_view};
 pub use words::{
-    ChangeJob, Check, Convert, Execute, Explain, Figures, FormAsked, Job, Judge, Live, MapJob, Shown, Stats,
-    Talk, Target, View, WordFault, parse_words,
+    ChangeJob, Check, Convert, Execute, Explain, Figures, FormAsked, Job, Judge, Live, MapJob,
+    Shown, Stats, Talk, Target, View, WordFault, parse_words,
 };

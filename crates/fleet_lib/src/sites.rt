@@ -141,11 +141,7 @@ pub struct Before<'a> {
 }
 
 /// What the changes of a record make of the chapter before it.
-fn made_again(
-    alloc: Global,
-    before: Before<'_>,
-    record: &SiteRecord,
-) -> Result<Made, SiteTrouble> {
+fn made_again(alloc: Global, before: Before<'_>, record: &SiteRecord) -> Result<Made, SiteTrouble> {
     let map = map_in(alloc, before.map)?;
     let chapter = chapter_in(alloc, before.trace)?;
     let made = match before.site {

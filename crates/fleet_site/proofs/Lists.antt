@@ -57,9 +57,9 @@ pieces a cs b n c ds o d m e ss f =
     append_assoc (a ++ cs) ((b ++ n) ++ (c ++ ds)) (o ++ (d ++ ((m ++ e) ++ (ss ++ f))))
     ∙ append_assoc a cs (((b ++ n) ++ (c ++ ds)) ++ (o ++ (d ++ ((m ++ e) ++ (ss ++ f)))))
     ∙ ap (λ x. a ++ (cs ++ x)) (append_assoc (b ++ n) (c ++ ds) (o ++ (d ++ ((m ++ e) ++ (ss ++ f))))
-      ∙ append_assoc b n ((c ++ ds) ++ (o ++ (d ++ ((m ++ e) ++ (ss ++ f)))))
-      ∙ ap (λ x. b ++ (n ++ x)) (append_assoc c ds (o ++ (d ++ ((m ++ e) ++ (ss ++ f))))
-        ∙ ap (λ x. c ++ (ds ++ (o ++ (d ++ x)))) (append_assoc m e (ss ++ f))))
+    ∙ append_assoc b n ((c ++ ds) ++ (o ++ (d ++ ((m ++ e) ++ (ss ++ f)))))
+    ∙ ap (λ x. b ++ (n ++ x)) (append_assoc c ds (o ++ (d ++ ((m ++ e) ++ (ss ++ f))))
+    ∙ ap (λ x. c ++ (ds ++ (o ++ (d ++ x)))) (append_assoc m e (ss ++ f))))
 
 -- the pieces of a record's text are its text
 pub text-pieces : {A : Type 0} (r : Record A) → lists_text r ++ (codes ",\"everyone\":" ++ (compact_text (opening_data r.everyone) ++ rest_text r)) ≡ record_text r

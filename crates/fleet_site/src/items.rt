@@ -164,12 +164,7 @@ impl Item for Change {
     }
 }
 
-fn dropped_from(
-    robot: &Value,
-    client: &Value,
-    number: &Value,
-    cell: &Value,
-) -> Option<Dropped>
+fn dropped_from(robot: &Value, client: &Value, number: &Value, cell: &Value) -> Option<Dropped>
     ensures { result ≡ dropped_from (view robot.now ∷ view client.now ∷ view number.now ∷ view cell.now ∷ []) }
 {
     let robot = count_of(robot)?;

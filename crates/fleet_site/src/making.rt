@@ -12,8 +12,8 @@ ghost use Rattle.fleet_site.specs.Make.{AreUnlike, IsEndFault, IsMade, IsOfRobot
 ghost use Rattle.fleet_site.specs.Record.{record_of};
 ghost use Rattle.fleet_site.specs.declared.making.MakeFault.TheVariants.{NoMemory};
 
-use crate::sums::checksum;
 use crate::record::SiteRecord;
+use crate::sums::checksum;
 use fleet_grid::Grid;
 use fleet_history::{Chapter, Opening, RobotState};
 use fleet_map::MapText;
@@ -92,12 +92,7 @@ fn put_floor(letters: &mut Vec<u8>, cell: Option<u32>)
 }
 
 /// Makes the cell of a robot floor, if the robot is held.
-fn open_one(
-    letters: &mut Vec<u8>,
-    standings: &[Standing],
-    robots: &[RobotState],
-    robot: usize,
-)
+fn open_one(letters: &mut Vec<u8>, standings: &[Standing], robots: &[RobotState], robot: usize)
     ensures { letters.new.items ≡ opened_one letters.old.items standings.now robots.now robot }
 {
     if is_held_at(standings, robot) {
@@ -152,11 +147,7 @@ fn end_of(alloc: Global, map: &MapText, chapter: &Chapter) -> Result<Opening, Ma
 }
 
 /// The site at the end of a chapter.
-fn site_at(
-    map: MapText,
-    before: Option<&SiteRecord>,
-    end: &Opening,
-) -> Result<Site, MakeFault>
+fn site_at(map: MapText, before: Option<&SiteRecord>, end: &Opening) -> Result<Site, MakeFault>
     requires { HasSides (view map) }
     ensures ok { IfOk result (λ site. IsSiteAt (floor_of_map (view map)) (option_map (λ r. record_of r.now) before.entry) end.now site) }
     ensures fault { IfErr result (λ fault. AreUnlike (option_map (λ r. record_of r.now) before.entry) end.now fault) }

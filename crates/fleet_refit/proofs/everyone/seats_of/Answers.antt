@@ -11,7 +11,7 @@ loop-place-preserved g c =
     c.in_ok-push.ensures.items
     ∙ ap (λ z. c.loop-place.seats.items ++ seat_of c.standing_at-standing.result z ∷ []) c.in_ok-robot.ensures
     ∙ seats-more c.loop-place.seats.items c.args.standings.now c.args.robots.now c.loop-place.place c.standing_at-standing.result c.index-robots-place.result
-      c.loop-place.invariant c.requires c.loop-place-test.true c.standing_at-standing.ensures c.index-robots-place.is
+    c.loop-place.invariant c.requires c.loop-place-test.true c.standing_at-standing.ensures c.index-robots-place.is
 
 pub returns-clause-exact : goal.returns-clause-exact
 returns-clause-exact g c = c.loop-place.invariant ∙ seats-all c.args.standings.now c.args.robots.now c.loop-place.place c.requires c.loop-place-test.false
