@@ -7,10 +7,11 @@ use crate::kept::{KeptFault, KeptText, complain_of_kept, kept_chapter};
 use crate::renumbering::{first_renumbered, moved_before, push_numbers};
 use crate::said::fail;
 use crate::sites::{SiteTrouble, record_on, site_line};
+use crate::waits::leaves_room;
 use fleet_history::Chapter;
 use fleet_hooks::StampLaw;
 use fleet_map::{MapFault, MapText, read_map};
-use fleet_refit::{Change, ChangeFault, Dropped, RefitFault};
+use fleet_refit::{Change, ChangeFault, Dropped, Refit, RefitFault};
 use fleet_reopen::ReopenFault;
 use fleet_site::{Made, MakeFault, SiteRecord, change_said, make, write_site};
 use fleet_survey::map_text;
@@ -51,6 +52,8 @@ enum Refusal {
     Refit(RefitFault),
     /// This robot would get another number.
     Renumbered(u32),
+    /// A robot has waited longer than it may after the changes.
+    Waits,
     NoMemory,
 }
 
@@ -134,30 +137,45 @@ fn push_dropped(text: &mut String, dropped: &[Dropped]) -> Result<(), AllocError
     Ok(())
 }
 
-/// What is printed and written of changes that were made.
-fn changed(alloc: Global, made: Made, moved: &[u32]) -> Result<Changed, AllocError> {
+/// The lines for changes that were made.
+fn said_of(alloc: Global, made: &Made, moved: &[u32]) -> Result<String, AllocError> {
     let mut said = String::new(alloc);
     push_dropped(&mut said, &made.refit.dropped)?;
     push_numbers(&mut said, moved, &made.refit.numbers)?;
     let (count, dropped) = (made.record.changes.len(), made.refit.dropped.len());
     let chapter = made.record.chapter;
-    write!(
-        &mut said,
-        "changed {count} dropped {dropped} chapter {chapter}\n"
-    )?;
-    let map = map_text(alloc, &made.refit.grid)?;
-    let site = write_site(alloc, &made.record)?;
+    write!(&mut said, "changed {count} dropped {dropped} chapter {chapter}\n")?;
+    Ok(said)
+}
+
+/// What is printed and written of changes that were made, if a fleet goes on from them.
+fn changed_texts(alloc: Global, made: Made, moved: &[u32]) -> Result<Changed, Refusal> {
+    let said = said_of(alloc, &made, moved)?;
+    let Made { refit, record } = made;
+    let (chapter, site) = (record.chapter, write_site(alloc, &record)?);
+    let Refit {
+        site: _site,
+        grid,
+        opening,
+        numbers: _numbers,
+        dropped: _dropped,
+    } = refit;
+    let map = map_text(alloc, &grid)?;
     let next = Chapter {
         number: chapter,
-        opening: made.refit.opening,
+        opening,
         entries: Vec::new(alloc),
     };
+    let trace = trace_line(alloc, &next)?;
+    if !leaves_room(alloc, grid, &next)? {
+        return Err(Refusal::Waits);
+    }
     Ok(Changed {
         said,
         chapter,
         map,
         site,
-        trace: trace_line(alloc, &next)?,
+        trace,
     })
 }
 
@@ -189,7 +207,7 @@ fn changes_made(
             return Err(Refusal::Renumbered(robot));
         }
     }
-    Ok(changed(alloc, made, &moved)?)
+    changed_texts(alloc, made, &moved)
 }
 
 /// The record of the changes before, if there were any.
@@ -216,6 +234,7 @@ fn refusal_line(alloc: Global, name: &str, refusal: Refusal) -> Result<(String, 
             format!(in alloc; "change-refused 12 renumbered robot {robot}\n")?,
             5,
         )),
+        Refusal::Waits => Ok((String::from_str(alloc, "change-refused 13 waits\n")?, 5)),
         Refusal::Kept(_) | Refusal::NoMemory => Err(AllocError),
     }
 }

@@ -27,6 +27,7 @@ mod stats;
 mod talk;
 mod talk_words;
 mod view;
+mod waits;
 mod words;
 
 pub use change::{ChangeTexts, Changed, change_site};
