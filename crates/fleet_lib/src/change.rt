@@ -144,7 +144,10 @@ fn said_of(alloc: Global, made: &Made, moved: &[u32]) -> Result<String, AllocErr
     push_numbers(&mut said, moved, &made.refit.numbers)?;
     let (count, dropped) = (made.record.changes.len(), made.refit.dropped.len());
     let chapter = made.record.chapter;
-    write!(&mut said, "changed {count} dropped {dropped} chapter {chapter}\n")?;
+    write!(
+        &mut said,
+        "changed {count} dropped {dropped} chapter {chapter}\n"
+    )?;
     Ok(said)
 }
 

@@ -5,6 +5,15 @@ use fleet_site::SiteRecord;
 use std::alloc::{AllocError, Global};
 use std::fmt::Write;
 
+/// A place as a robot's number.
+fn number_at(place: usize) -> u32 {
+    match u32::try_from(place) {
+        Ok(number) => number,
+        // There are 512 robots at most, so this never runs
+        Err(_) => u32::MAX,
+    }
+}
+
 /// The robots that moved, in order: before the first changes these are all.
 pub(crate) fn moved_before(
     alloc: Global,
@@ -14,13 +23,13 @@ pub(crate) fn moved_before(
     let mut moved = Vec::new(alloc);
     let Some(record) = before else {
         for robot in 0..robots {
-            moved.push(robot as u32)?;
+            moved.push(number_at(robot))?;
         }
         return Ok(moved);
     };
     for robot in 0..record.standings.len() {
         if record.standings[robot] == Standing::Moving {
-            moved.push(robot as u32)?;
+            moved.push(number_at(robot))?;
         }
     }
     Ok(moved)

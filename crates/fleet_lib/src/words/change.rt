@@ -28,18 +28,18 @@ pub struct ChangeJob {
 /// `change --traces DIR --to OUT [--renumber] [--dry-run] MAP CHANGE..`.
 pub(crate) const CHANGE: Word<'static> = Word {
     name: "change",
-    about: "Changes the site of a fleet between two runs: walls, robots, errands",
-    example: "Example: fleet change --traces history --to new.map ring.map 'block 7; hold 1'",
+    about: "Changes the site of a fleet between two runs",
+    example: "Example: fleet change --traces history --to new.map ring.map 'block 7'",
     arguments: &[
         Argument {
             name: "traces",
             kind: Kind::RequiredValue("DIR"),
-            help: "The folder of the fleet's chapters",
+            help: "The folder of its chapters",
         },
         Argument {
             name: "to",
             kind: Kind::RequiredValue("OUT"),
-            help: "Where the new map is written",
+            help: "The new map",
         },
         Argument {
             name: "renumber",
@@ -49,13 +49,13 @@ pub(crate) const CHANGE: Word<'static> = Word {
         Argument {
             name: "dry-run",
             kind: Kind::Flag,
-            help: "Change nothing, and say what would be",
+            help: "Write nothing",
         },
         MAP,
         Argument {
             name: "CHANGE",
             kind: Kind::Files,
-            help: "block CELL, open CELL, join CELL, leave R, hold R, free R, move R CELL or cancel C K; several with `;`",
+            help: "block, open, join CELL; leave, hold, free R; move R CELL; cancel C K",
         },
     ],
 };
