@@ -50,7 +50,7 @@ pub(crate) fn past_of<R: Files + Alloc<A = Global>, E: Write + Drop, G: Write>(
     (error, said): (E, &mut G),
 ) -> Result<(Option<KeptFile>, Recalls), u8> {
     let (folder, mut error) = (live.traces.as_deref().unwrap_or(""), error);
-    let kept = recover(rt, (map, folder), found, &mut error, said)?;
+    let (kept, _site) = recover(rt, (map, folder), found, &mut error, said)?;
     match recalls_of(rt, folder, &kept, recall_in(live).unwrap_or(0)) {
         Ok(recalls) => Ok((kept, recalls)),
         Err(AllocError) => Err(fail(InputFault::NoMemory, said)),

@@ -27,6 +27,7 @@ use Rattle.fleet_lib.specs.declared.words.judge.Judge.{Judge as JudgeJob}
 use Rattle.fleet_lib.specs.declared.words.map.MapJob.{MapJob}
 use Rattle.fleet_lib.specs.declared.words.execute.Execute.{Execute as ExecuteJob}
 use Rattle.fleet_lib.specs.declared.words.sim.SimJob.{SimJob}
+use Rattle.fleet_lib.specs.declared.words.change.ChangeJob.{ChangeJob}
 use Rattle.fleet_lib.specs.declared.words.job.Job.{Job}
 use Rattle.fleet_lib.specs.declared.words.job.Job.TheVariants as job
 
@@ -184,6 +185,15 @@ pub record IsMapJob (rows : List Row) (asked : MapJob) : Type 0 where
   pub json : asked.json ≡ has_flag (codes "json") rows
   pub floor : first_of (codes "MAP") rows ≡ Some (string_bytes asked.map)
 
+-- what the words after `change` ask for
+pub record IsChange (rows : List Row) (change : ChangeJob) : Type 0 where
+  pub traces : first_of (codes "traces") rows ≡ Some (string_bytes change.traces)
+  pub to : first_of (codes "to") rows ≡ Some (string_bytes change.to)
+  pub renumber : change.renumber ≡ has_flag (codes "renumber") rows
+  pub dry_run : change.dry_run ≡ has_flag (codes "dry-run") rows
+  pub floor : first_of (codes "MAP") rows ≡ Some (string_bytes change.map)
+  pub changes : all_of (codes "CHANGE") rows ≡ Some (map (λ s. string_bytes s) change.changes.items)
+
 -- what the words after `execute` ask for
 pub record IsExecute (rows : List Row) (execute : ExecuteJob) : Type 0 where
   pub clearance : first_of (codes "clearance") rows ≡ option_map (λ s. string_bytes s) execute.clearance
@@ -220,3 +230,4 @@ IsJobOf found (job.Judge judge) = (rows : List Row) × (found ≡ Some (codes "j
 IsJobOf found (job.Map asked) = (rows : List Row) × (found ≡ Some (codes "map", rows)) × IsMapJob rows asked
 IsJobOf found (job.Execute execute) = (rows : List Row) × (found ≡ Some (codes "execute", rows)) × IsExecute rows execute
 IsJobOf found (job.Sim asked) = (rows : List Row) × (found ≡ Some (codes "sim", rows)) × IsSimJob rows asked
+IsJobOf found (job.Change change) = (rows : List Row) × (found ≡ Some (codes "change", rows)) × IsChange rows change

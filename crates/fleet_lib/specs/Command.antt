@@ -59,9 +59,14 @@ sim_app = with_rules (new_app (codes "sim"))
     (value_rule (codes "robots") ∷ value_rule (codes "ticks") ∷ value_rule (codes "warm-up") ∷ value_rule (codes "seeds") ∷ value_rule (codes "cells") ∷ flag_rule (codes "roomy") ∷ value_rule (codes "planner")
     ∷ value_rule (codes "traces") ∷ flag_rule (codes "times") ∷ flag_rule (codes "csv") ∷ flag_rule (codes "json") ∷ file_rule (codes "MAP") ∷ [])
 
+-- change --traces DIR --to OUT [--renumber] [--dry-run] MAP CHANGE..
+abbrev pub change_app : App
+change_app = with_rules (new_app (codes "change"))
+    (required_value_rule (codes "traces") ∷ required_value_rule (codes "to") ∷ flag_rule (codes "renumber") ∷ flag_rule (codes "dry-run") ∷ file_rule (codes "MAP") ∷ files_rule (codes "CHANGE") ∷ [])
+
 -- the words of fleet
 abbrev pub word_apps : List App
-word_apps = view_app ∷ check_app ∷ talk_app ∷ convert_app ∷ explain_app ∷ live_app ∷ stats_app ∷ judge_app ∷ map_app ∷ execute_app ∷ sim_app ∷ []
+word_apps = view_app ∷ check_app ∷ talk_app ∷ convert_app ∷ explain_app ∷ live_app ∷ stats_app ∷ judge_app ∷ map_app ∷ execute_app ∷ sim_app ∷ change_app ∷ []
 
 -- fleet, which tells its version and wants a word
 abbrev pub fleet_app : App

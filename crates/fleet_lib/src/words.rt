@@ -2,6 +2,7 @@
 //! of its own (such as `view`), a variant of `Job`, and a line in `program` and in `job_from`.
 
 mod arguments;
+mod change;
 mod check;
 mod convert;
 mod execute;
@@ -16,6 +17,7 @@ mod stats;
 mod talk;
 mod view;
 
+pub use change::ChangeJob;
 pub use check::{Check, FormAsked};
 pub use command_words::WordFault;
 pub use convert::{Convert, Target};

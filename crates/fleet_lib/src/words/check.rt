@@ -68,7 +68,7 @@ pub(crate) const CHECK: Word<'static> = Word {
         Argument {
             name: "PLAN",
             kind: Kind::File,
-            help: "A plan: lines of cells or moves, paths of CBS, a table (CSV), YAML, or JSON of the League of Robot Runners",
+            help: "A plan",
         },
     ],
 };

@@ -6,6 +6,7 @@ ghost use Rattle.fleet_lib.specs.Command.{fleet_app};
 ghost use Rattle.fleet_lib.specs.Asked.{IsJobOf};
 ghost use Rattle.command_words.specs.declared.words.WordFault.TheVariants.{NoMemory};
 
+use crate::words::change::{ChangeJob, change_in};
 use crate::words::check::{Check, check_in};
 use crate::words::convert::{Convert, convert_in};
 use crate::words::execute::{Execute, execute_in};
@@ -36,6 +37,7 @@ pub enum Job {
     Map(MapJob),
     Execute(Execute),
     Sim(SimJob),
+    Change(ChangeJob),
 }
 
 /// The job of the words that `clap` accepted.
@@ -66,6 +68,8 @@ fn job_from(alloc: Global, matches: &ArgMatches<'_>) -> Result<Job, AllocError>
                 Ok(Job::Execute(execute_in(alloc, inner)?))
             } else if name == "sim" {
                 Ok(Job::Sim(sim_in(alloc, inner)?))
+            } else if name == "change" {
+                Ok(Job::Change(change_in(alloc, inner)?))
             } else {
                 // `clap` takes no other word, so this never runs
                 Err(AllocError)

@@ -2,8 +2,9 @@
 
 ghost use Rattle.std.specs.Prelude.{◌≡◌, map};
 ghost use Rattle.command_words.specs.Table.{program_app, word_app};
-ghost use Rattle.fleet_lib.specs.Command.{check_app, convert_app, execute_app, explain_app, fleet_app, judge_app, live_app, map_app, sim_app, stats_app, talk_app, view_app, word_apps};
+ghost use Rattle.fleet_lib.specs.Command.{change_app, check_app, convert_app, execute_app, explain_app, fleet_app, judge_app, live_app, map_app, sim_app, stats_app, talk_app, view_app, word_apps};
 
+use crate::words::change::CHANGE;
 use crate::words::check::CHECK;
 use crate::words::convert::CONVERT;
 use crate::words::execute::EXECUTE;
@@ -86,9 +87,15 @@ fn sim_word() -> Word<'static>
     SIM
 }
 
+fn change_word() -> Word<'static>
+    ensures { word_app result ≡ change_app }
+{
+    CHANGE
+}
+
 /// The words of the program. Each comes from a function of its own, since a proof has a constant at each step of the function
 /// that names it: the table of all is too long for one.
-pub(crate) fn fleet_words() -> [Word<'static>; 11]
+pub(crate) fn fleet_words() -> [Word<'static>; 12]
     ensures { map word_app result ≡ word_apps }
 {
     [
@@ -103,6 +110,7 @@ pub(crate) fn fleet_words() -> [Word<'static>; 11]
         map_word(),
         execute_word(),
         sim_word(),
+        change_word(),
     ]
 }
 
