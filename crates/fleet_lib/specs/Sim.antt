@@ -25,16 +25,7 @@ pub record IsSimPlan (plan : SimPlan) : Type 0 where
   pub some_seeds : 1 ≤ plan.seeds
   pub few_seeds : plan.seeds ≤ 1000
 
--- what is complained of words
-abbrev pub sim_complaint : SimWordFault → List ℕ
-sim_complaint word.Robots = codes "error: '--robots <LIST>' has to be given, as 64,128: numbers from 1 to 512\n"
-sim_complaint word.Ticks = codes "error: '--ticks <N>' has to be given, and is from 1 to 1000000\n"
-sim_complaint word.WarmUp = codes "error: invalid value for '--warm-up <N>'\n"
-sim_complaint word.Seeds = codes "error: '--seeds <N>' is from 1 to 1000\n"
-sim_complaint word.Planner = codes "error: invalid value for '--planner <NAME>'\n"
-sim_complaint word.Form = codes "error: '--csv' and '--json' go without each other\n"
-sim_complaint word.NoMemory = codes "fleet: memory\n"
-
+-- the status of words that are wrong
 abbrev pub sim_word_status : SimWordFault → ℕ
 sim_word_status word.Robots = 2
 sim_word_status word.Ticks = 2

