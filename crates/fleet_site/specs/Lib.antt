@@ -1,5 +1,4 @@
 pub mod Checksum
-pub mod Fits
 pub mod Make
 pub mod Record
 pub mod Said
