@@ -13,7 +13,7 @@ mod write;
 
 pub use chapters::read_chapters;
 pub use fault::{ChaptersFault, JudgeFault, TraceFault};
-pub use judging::{is_early, judge, landings_after, opening_after, opening_fault, verdict_after};
+pub use judging::{is_early, judge, landings_after, opening_fault, verdict_after};
 pub use law::{trace_reads_back, write_and_read};
 pub use part::{FormPart, OpeningPart};
 pub use pieces::{entry_told, opening_told, push_entry, push_opening};

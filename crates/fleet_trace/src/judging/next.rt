@@ -24,7 +24,7 @@ pub fn is_early(chapter: &Chapter) -> bool
 }
 
 /// What the next chapter begins with; `None` if the chapter is not legal, or its clock may come to 2^63.
-pub fn opening_after(
+pub(crate) fn opening_after(
     alloc: Global,
     grid: &Grid,
     chapter: &Chapter,
