@@ -95,7 +95,7 @@ module _ (m : Floor) (before : List ℕ) (k at : ℕ) (now : List ℕ) where
       let one : at2 ≡ length (below m (k + 1)) = omega (arith, a, w.0, ap length more, length-append (below m k) (k ∷ [])) in
       let from : now ≡ below m k ++ drop (length (below m k)) before = w.1 ∙ ap (λ (i : ℕ). below m k ++ drop i before) w.0 in
       let to : set now at k ≡ (below m k ++ k ∷ []) ++ drop (suc (length (below m k))) before =
-          ap (λ xs. set xs at k) from ∙ ap (λ (i : ℕ). set (below m k ++ drop (length (below m k)) before) i k) w.0 ∙ write-more (below m k) before k (omega (arith, place, room)) in
+      ap (λ xs. set xs at k) from ∙ ap (λ (i : ℕ). set (below m k ++ drop (length (below m k)) before) i k) w.0 ∙ write-more (below m k) before k (omega (arith, place, room)) in
       let next : suc (length (below m k)) ≡ at2 = omega (arith, a, w.0) in
       (one, n ∙ to ∙ ap (λ t. t ++ drop (suc (length (below m k))) before) (sym more) ∙ ap (λ (i : ℕ). below m (k + 1) ++ drop i before) next)
 

@@ -7,7 +7,7 @@ use Rattle.fleet_c.proofs.map_floor.put_floor.Goals.{then-is_floor, else-is_floo
 pub bounds-cells-at : goal.bounds-cells-at
 bounds-cells-at c =
     next-place c.args.grid.now c.args.cells.now c.loop-cell.cell c.loop-cell.at c.loop-cell.cells
-        (omega (arith, c.cell_count-cell-end.ensures.value, c.loop-cell-test.true)) (c.is_floor.ensures.0 c.if-is_floor.true) c.requires c.loop-cell.invariant
+    (omega (arith, c.cell_count-cell-end.ensures.value, c.loop-cell-test.true)) (c.is_floor.ensures.0 c.if-is_floor.true) c.requires c.loop-cell.invariant
 
 pub loop-cell-preserved : goal.loop-cell-preserved
 loop-cell-preserved c =
