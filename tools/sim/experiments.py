@@ -9,7 +9,7 @@ import model  # noqa: E402
 
 WORD = 2 ** 64 - 1
 LIMITS = model.limits(queue=1, mailbox=4096, life=2 ** 40, orders=2 ** 62, clock=2 ** 48, chapter=16_777_216)
-SPREADS = ("throughput", "service_median", "service_90", "service_99", "delay", "delay_ratio", "longest_wait")
+SPREADS = ("throughput", "service_median", "service_p90", "service_p99", "delay", "delay_ratio", "longest_wait")
 
 
 class Random:
@@ -110,8 +110,8 @@ def figures(ticks, arrivals, waited, rows):
     return {
         "throughput": part(sum(arrivals), ticks),
         "service_median": times[(count - 1) // 2] * 1000 if count else None,
-        "service_90": at(count // 10),
-        "service_99": at(count // 100),
+        "service_p90": at(count // 10),
+        "service_p99": at(count // 100),
         "delay": part(travel - distance, count),
         "delay_ratio": part(travel, distance),
         "longest_wait": waited * 1000,

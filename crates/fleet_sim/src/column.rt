@@ -49,13 +49,13 @@ impl Column {
         match self {
             Column::Throughput => "throughput",
             Column::ServiceMedian => "service_median",
-            Column::ServiceNinetieth => "service_90",
-            Column::ServiceNinetyNinth => "service_99",
+            Column::ServiceNinetieth => "service_p90",
+            Column::ServiceNinetyNinth => "service_p99",
             Column::Delay => "delay",
             Column::DelayRatio => "delay_ratio",
             Column::LongestWait => "longest_wait",
             Column::StepMedian => "step_median_us",
-            Column::StepNinetyNinth => "step_99_us",
+            Column::StepNinetyNinth => "step_p99_us",
             Column::Planning => "planning",
         }
     }

@@ -76,6 +76,6 @@ fn table(rt: HostRuntime) {
     let text = table_text(rt.alloc(), TableForm::Csv, &lines, false).expect(rt, "a table");
     assert_eq!(rt;
         text.as_str(),
-        "robots,runs,ticks,frozen,throughput,throughput_deviation,service_median,service_median_deviation,service_90,service_90_deviation,service_99,service_99_deviation,delay,delay_deviation,delay_ratio,delay_ratio_deviation,longest_wait,longest_wait_deviation\n3,1,20,0,0.800,,3.000,,7.000,,9.000,,1.125,,1.473,,8.000,\n3,2,20,0,0.700,0.141,4.000,1.414,7.000,0.000,8.000,1.414,0.729,0.560,1.269,0.287,7.000,1.414\n"
+        "robots,runs,ticks,frozen,throughput,throughput_deviation,service_median,service_median_deviation,service_p90,service_p90_deviation,service_p99,service_p99_deviation,delay,delay_deviation,delay_ratio,delay_ratio_deviation,longest_wait,longest_wait_deviation\n3,1,20,0,0.800,,3.000,,7.000,,9.000,,1.125,,1.473,,8.000,\n3,2,20,0,0.700,0.141,4.000,1.414,7.000,0.000,8.000,1.414,0.729,0.560,1.269,0.287,7.000,1.414\n"
     );
 }
