@@ -14,12 +14,7 @@ use fleet_trace::{JudgeFault, is_early, judge};
 use std::alloc::{AllocError, Global};
 
 /// Enters the entries of a sound history into the state at its opening.
-fn enter_all(
-    grid: &Grid,
-    opening: &Opening,
-    entries: &[Entry],
-    state: &mut FleetState,
-)
+fn enter_all(grid: &Grid, opening: &Opening, entries: &[Entry], state: &mut FleetState)
     requires opened { IsStateOf grid.now (start opening.now) state.old }
     requires rooms { HasFullRooms state.old }
     requires legal { IsLegal grid.now (with_entries (start opening.now) entries.now) }
@@ -32,11 +27,7 @@ fn enter_all(
 }
 
 /// The state after a sound chapter.
-fn state_after(
-    alloc: Global,
-    grid: &Grid,
-    chapter: &Chapter,
-) -> Result<FleetState, AllocError>
+fn state_after(alloc: Global, grid: &Grid, chapter: &Chapter) -> Result<FleetState, AllocError>
     requires legal { IsLegal grid.now (history_of chapter.now) }
     requires early { IsEarly (history_of chapter.now) }
     ensures { IfOk result (λ s. IsStateOf grid.now (history_of chapter.now) s) }
