@@ -2,6 +2,7 @@
 //! changes make of a chapter's end.
 #![tactic(auto)]
 
+mod after;
 mod items;
 mod line;
 mod making;

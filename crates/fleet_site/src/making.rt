@@ -12,13 +12,13 @@ ghost use Rattle.fleet_site.specs.Make.{AreUnlike, IsEndFault, IsMade, IsOfRobot
 ghost use Rattle.fleet_site.specs.Record.{record_of};
 ghost use Rattle.fleet_site.specs.declared.making.MakeFault.TheVariants.{NoMemory};
 
+use crate::after::opening_after;
 use crate::record::SiteRecord;
 use crate::sums::checksum;
 use fleet_grid::Grid;
 use fleet_history::{Chapter, Opening, RobotState};
 use fleet_map::MapText;
 use fleet_refit::{AfterFault, Change, Refit, RefitFault, Site, Standing};
-use fleet_trace::opening_after;
 use std::alloc::{AllocError, Global};
 
 /// How many robots there may be.
