@@ -63,6 +63,7 @@ RAW(map_open);
 RAW(map_close);
 RAW(map_shape);
 RAW(map_joins);
+RAW(map_floor);
 RAW(map_check_step);
 RAW(map_first_bridge);
 RAW(map_distances);
@@ -458,6 +459,13 @@ nashirudder_code nashirudder_map_joins(const nashirudder_map *map, uint32_t a, u
     if (!map || !joins) return NASHIRUDDER_NULL_POINTER;
     nashirudder_map seen = *map;
     return raw_nashirudder_map_joins(&seen, a, b, joins);
+}
+
+nashirudder_code nashirudder_map_floor(const nashirudder_map *map, uint32_t *cells,
+        size_t cells_length, size_t *count) {
+    if (!map || (!cells && cells_length) || !count) return NASHIRUDDER_NULL_POINTER;
+    nashirudder_map seen = *map;
+    return raw_nashirudder_map_floor(&seen, LIST(uint32_t, cells), cells_length, count);
 }
 
 nashirudder_code nashirudder_map_check_step(const nashirudder_map *map, const uint32_t *from, size_t from_length,

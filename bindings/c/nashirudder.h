@@ -31,8 +31,9 @@
 **
 ** THREADS
 **     The calls that only look take their handle as const, and write nothing there: any number of them may run at once on one
-**     handle. Every other call has to be the only one on its handle. A handle may move from thread to thread, if a lock or the start or end of a thread orders the calls, and calls on
-**     different handles may run side by side. No call starts a thread, waits for a lock, or may be made from a signal handler.
+**     handle. Every other call has to be the only one on its handle. A handle may move from thread to thread, if a lock or the
+**     start or end of a thread orders the calls, and calls on different handles may run side by side. No call starts a thread,
+**     waits for a lock, or may be made from a signal handler.
 **
 ** REFUSALS
 **     Each call answers a code. It is NASHIRUDDER_DONE where the call was carried out; at every other code the fleet is as it
@@ -46,11 +47,9 @@
 #include <stddef.h>
 #include <stdint.h>
 
-/*
-** The version of this header. nashirudder_version is that of the library: a program should compare them once. A library fits
+/* The version of this header. nashirudder_version is that of the library: a program should compare them once. A library fits
 ** if it has the same major version (before 1.0.0: the same minor version too), since another one has other structs and
-** numbers; and if it is not older than the header, since an older one may lack calls.
-*/
+** numbers; and if it is not older than the header, since an older one may lack calls. */
 #define NASHIRUDDER_VERSION_MAJOR 0
 #define NASHIRUDDER_VERSION_MINOR 1
 #define NASHIRUDDER_VERSION_PATCH 0
@@ -60,28 +59,22 @@
 extern "C" {
 #endif
 
-/*
-** A call whose code is ignored gets a warning.
-*/
+/* A call whose code is ignored gets a warning. */
 #if defined(__GNUC__)
 #define NASHIRUDDER_MUST_USE __attribute__((warn_unused_result))
 #else
 #define NASHIRUDDER_MUST_USE
 #endif
 
-/*
-** An enum of 32 bits.
-*/
+/* An enum of 32 bits. */
 #if defined(__cplusplus) || (defined(__STDC_VERSION__) && __STDC_VERSION__ >= 202311L)
 #define NASHIRUDDER_ENUM(name) enum name : uint32_t
 #else
 #define NASHIRUDDER_ENUM(name) enum name
 #endif
 
-/*
-** CODES: what calls answer. nashirudder_code_name has a word for each, and nashirudder_message a sentence. No verdict has the
-** number of a code.
-*/
+/* CODES: what calls answer. nashirudder_code_name has a word for each, and nashirudder_message a sentence. No verdict has the
+** number of a code. */
 typedef NASHIRUDDER_ENUM(nashirudder_code) {
     NASHIRUDDER_DONE = 0,                /* the call was carried out */
     NASHIRUDDER_NO_MEMORY = 1,           /* memory was refused */
@@ -161,10 +154,8 @@ typedef NASHIRUDDER_ENUM(nashirudder_code) {
     NASHIRUDDER_SHIELD_FAR = 77          /* of the robot `first`, the preference `second` is neither its own cell nor next to it */
 } nashirudder_code;
 
-/*
-** VERDICTS: what an order is answered once it is taken. The first three carry it out, the others refuse it for a reason; in
-** either case it is an entry of the history, and the client is told. nashirudder_verdict_name has a word for each.
-*/
+/* VERDICTS: what an order is answered once it is taken. The first three carry it out, the others refuse it for a reason; in
+** either case it is an entry of the history, and the client is told. nashirudder_verdict_name has a word for each. */
 typedef NASHIRUDDER_ENUM(nashirudder_verdict) {
     NASHIRUDDER_NO_VERDICT = 0,          /* of a notice that is an arrival */
     NASHIRUDDER_ACCEPTED = 101,          /* the errand joins its robot's queue */
@@ -182,27 +173,21 @@ typedef NASHIRUDDER_ENUM(nashirudder_verdict) {
     NASHIRUDDER_TOO_LATE = 113           /* the errand is its robot's front */
 } nashirudder_verdict;
 
-/*
-** KINDS of orders, in a list of them.
-*/
+/* KINDS of orders, in a list of them. */
 typedef NASHIRUDDER_ENUM(nashirudder_kind) {
     NASHIRUDDER_ORDER_GO = 1,            /* a robot is to go to a cell */
     NASHIRUDDER_ORDER_CLOSE = 2,         /* the client's last order */
     NASHIRUDDER_ORDER_WITHDRAW = 3       /* an errand is given up */
 } nashirudder_kind;
 
-/*
-** STATES of robots.
-*/
+/* STATES of robots. */
 typedef NASHIRUDDER_ENUM(nashirudder_state) {
     NASHIRUDDER_FREE = 1,                /* it has no errand */
     NASHIRUDDER_BUSY = 2,                /* it has errands */
     NASHIRUDDER_SHUT = 3                 /* it takes no further errands; it may still have some */
 } nashirudder_state;
 
-/*
-** CLEARANCES of an execution: when a robot's stay on a cell ends, so that another one may begin to move there.
-*/
+/* CLEARANCES of an execution: when a robot's stay on a cell ends, so that another one may begin to move there. */
 typedef NASHIRUDDER_ENUM(nashirudder_clearance) {
     NASHIRUDDER_CLEARANCE_ARRIVED = 1,   /* when it has reached its next cell */
     NASHIRUDDER_CLEARANCE_STARTED = 2    /* when it has begun to move to its next cell */
@@ -212,9 +197,7 @@ typedef NASHIRUDDER_ENUM(nashirudder_clearance) {
 typedef char nashirudder_enums_have_32_bits[sizeof(nashirudder_code) == 4 && sizeof(nashirudder_verdict) == 4 && sizeof(nashirudder_kind) == 4
                                             && sizeof(nashirudder_state) == 4 ? 1 : -1];
 
-/*
-** The word for a code; "unknown" for a number that is none.
-*/
+/* The word for a code; "unknown" for a number that is none. */
 static inline const char *nashirudder_code_name(uint32_t code) {
     switch (code) {
     case NASHIRUDDER_DONE: return "done";
@@ -285,9 +268,7 @@ static inline const char *nashirudder_code_name(uint32_t code) {
     }
 }
 
-/*
-** The word for a verdict; "unknown" for a number that is none.
-*/
+/* The word for a verdict; "unknown" for a number that is none. */
 static inline const char *nashirudder_verdict_name(uint32_t verdict) {
     switch (verdict) {
     case NASHIRUDDER_ACCEPTED: return "accepted";
@@ -313,9 +294,7 @@ static inline const char *nashirudder_verdict_name(uint32_t verdict) {
 /* The goal of a robot that has no errand. */
 #define NASHIRUDDER_NOWHERE 4294967295
 
-/*
-** The word for a state; "unknown" for a number that is none.
-*/
+/* The word for a state; "unknown" for a number that is none. */
 static inline const char *nashirudder_state_name(uint32_t state) {
     switch (state) {
     case NASHIRUDDER_FREE: return "free";
@@ -325,52 +304,40 @@ static inline const char *nashirudder_state_name(uint32_t state) {
     }
 }
 
-/*
-** A handle to a fleet. Begin with NASHIRUDDER_CLOSED, or with all bytes zero.
-*/
+/* A handle to a fleet. Begin with NASHIRUDDER_CLOSED, or with all bytes zero. */
 typedef struct nashirudder_fleet {
     void *at;
     bool is_open;
 } nashirudder_fleet;
 #define NASHIRUDDER_CLOSED {0, false}
 
-/*
-** A handle to a map that was read once. As with a fleet's, the caller owns its 16 bytes, which begin all zero.
-*/
+/* A handle to a map that was read once. As with a fleet's, the caller owns its 16 bytes, which begin all zero. */
 typedef struct nashirudder_map {
     void *at;
     bool is_open;
 } nashirudder_map;
 
-/*
-** A handle to a chapter that was handed out. As with a fleet's, the caller owns its 16 bytes, which begin all zero.
-*/
+/* A handle to a chapter that was handed out. As with a fleet's, the caller owns its 16 bytes, which begin all zero. */
 typedef struct nashirudder_chapter {
     void *at;
     bool is_open;
 } nashirudder_chapter;
 
-/*
-** A handle to the execution of a plan. As with a fleet's, the caller owns its 16 bytes, which begin all zero.
-*/
+/* A handle to the execution of a plan. As with a fleet's, the caller owns its 16 bytes, which begin all zero. */
 typedef struct nashirudder_execution {
     void *at;
     bool is_open;
 } nashirudder_execution;
 
-/*
-** A handle to a shield. As with a fleet's, the caller owns its 16 bytes, which begin all zero.
-*/
+/* A handle to a shield. As with a fleet's, the caller owns its 16 bytes, which begin all zero. */
 typedef struct nashirudder_shield {
     void *at;
     bool is_open;
 } nashirudder_shield;
 
-/*
-** The number of clients and the limits of a fleet. nashirudder_setup_default fills it in; it begins with its size, so that a
+/* The number of clients and the limits of a fleet. nashirudder_setup_default fills it in; it begins with its size, so that a
 ** library that reads another form of it refuses it (NASHIRUDDER_WRONG_SIZE). A lane, outlet or mailbox of 0 fits the robots:
-** 2 for each of them and 2 more, and at least 64. So one client can send an errand to each robot, and another one after it.
-*/
+** 2 for each of them and 2 more, and at least 64. So one client can send an errand to each robot, and another one after it. */
 typedef struct nashirudder_setup {
     uint32_t size;      /* sizeof(nashirudder_setup) */
     uint32_t clients;   /* 1 to 64 */
@@ -385,45 +352,35 @@ typedef struct nashirudder_setup {
     uint32_t chapters;  /* chapters in all, 1 to 4,294,967,295 */
 } nashirudder_setup;
 
-/*
-** A robot at the opening: the cell where it starts, and its ranks of the ways north, east, south and west. Of two
+/* A robot at the opening: the cell where it starts, and its ranks of the ways north, east, south and west. Of two
 ** neighbours of its cell that are equally near to its goal it tries the one of less rank first, and of equal ranks the one
-** that comes first of north, east, south, west. So all zero ranks will do.
-*/
+** that comes first of north, east, south, west. So all zero ranks will do. */
 typedef struct nashirudder_robot {
     uint32_t cell;
     uint8_t ranks[4];
 } nashirudder_robot;
 
-/*
-** Why a call that reads a map was refused.
-*/
+/* Why a call that reads a map was refused. */
 typedef struct nashirudder_fault {
     uint64_t first;     /* the first number that the refusal names, a line, row, robot or entry, else 0 */
     uint64_t second;    /* the second number that it names, a column, robot or rule, else 0 */
     nashirudder_code code; /* the same as the call's answer */
 } nashirudder_fault;
 
-/*
-** The verdict of an order that was taken.
-*/
+/* The verdict of an order that was taken. */
 typedef struct nashirudder_judgement {
     uint64_t number;    /* of NASHIRUDDER_ACCEPTED: the errand's number among the client's accepted errands; else 0 */
     nashirudder_verdict verdict;
 } nashirudder_judgement;
 
-/*
-** What a tick did.
-*/
+/* What a tick did. */
 typedef struct nashirudder_report {
     uint64_t tick;      /* the ticks made so far, with this one */
     uint32_t arrived;   /* how many robots arrived */
     uint32_t farewells; /* how many shut robots did their last errand */
 } nashirudder_report;
 
-/*
-** A notice to a client: the verdict of an order, or an arrival, where `verdict` is 0.
-*/
+/* A notice to a client: the verdict of an order, or an arrival, where `verdict` is 0. */
 typedef struct nashirudder_note {
     uint64_t seq;       /* counts the client's notices */
     uint64_t order;     /* of a verdict: the client's order; of an arrival: 0 */
@@ -435,9 +392,7 @@ typedef struct nashirudder_note {
     uint32_t stamp;     /* of an arrival: 0, since fleets opened from C stamp 0; else 0 */
 } nashirudder_note;
 
-/*
-** An order in a list of orders. What its kind does not need is not read.
-*/
+/* An order in a list of orders. What its kind does not need is not read. */
 typedef struct nashirudder_order {
     uint64_t number;    /* of NASHIRUDDER_ORDER_WITHDRAW: the errand */
     nashirudder_kind kind;
@@ -446,9 +401,7 @@ typedef struct nashirudder_order {
     uint32_t cell;      /* of NASHIRUDDER_ORDER_GO */
 } nashirudder_order;
 
-/*
-** An arrival that a tick shows.
-*/
+/* An arrival that a tick shows. */
 typedef struct nashirudder_arrival {
     uint64_t number;    /* the errand's number among the client's accepted errands */
     uint32_t robot;
@@ -457,9 +410,7 @@ typedef struct nashirudder_arrival {
     uint32_t stamp;     /* 0, since fleets opened from C stamp 0 */
 } nashirudder_arrival;
 
-/*
-** An errand that is accepted, and neither done nor withdrawn, and where it stands.
-*/
+/* An errand that is accepted, and neither done nor withdrawn, and where it stands. */
 typedef struct nashirudder_errand {
     uint64_t number;    /* its number among the client's accepted errands */
     uint64_t place;     /* its place in the robot's queue, from 1: at place 1 the robot is on its way to the cell */
@@ -468,9 +419,7 @@ typedef struct nashirudder_errand {
     uint32_t cell;      /* where the robot is sent to */
 } nashirudder_errand;
 
-/*
-** How a robot stands.
-*/
+/* How a robot stands. */
 typedef struct nashirudder_standing {
     uint64_t wait;      /* how many ticks it has waited for the arrival at its goal; 0 where it has no errand */
     uint64_t errands;   /* how many errands it has */
@@ -479,9 +428,7 @@ typedef struct nashirudder_standing {
     nashirudder_state state;
 } nashirudder_standing;
 
-/*
-** What a client has, and had.
-*/
+/* What a client has, and had. */
 typedef struct nashirudder_account {
     uint64_t taken;     /* the orders that were taken, in all chapters */
     uint64_t owed;      /* the errands that are accepted, and neither done nor withdrawn */
@@ -489,17 +436,13 @@ typedef struct nashirudder_account {
     uint64_t room;      /* the notices and unfinished errands that its mailbox can hold */
 } nashirudder_account;
 
-/*
-** An edge of a map, the cell of less number first.
-*/
+/* An edge of a map, the cell of less number first. */
 typedef struct nashirudder_edge {
     uint32_t lower;
     uint32_t upper;
 } nashirudder_edge;
 
-/*
-** How large a map is.
-*/
+/* How large a map is. */
 typedef struct nashirudder_shape {
     uint32_t height;
     uint32_t width;
@@ -508,9 +451,7 @@ typedef struct nashirudder_shape {
     uint32_t edges;     /* the pairs of floor cells that share a side */
 } nashirudder_shape;
 
-/*
-** A move of an execution: a step of the plan in which a robot changes its cell.
-*/
+/* A move of an execution: a step of the plan in which a robot changes its cell. */
 typedef struct nashirudder_move {
     uint64_t tick;      /* the step, from 1 */
     uint32_t robot;
@@ -518,9 +459,7 @@ typedef struct nashirudder_move {
     uint32_t to;        /* the cell to which it moves */
 } nashirudder_move;
 
-/*
-** Where a robot of an execution is.
-*/
+/* Where a robot of an execution is. */
 typedef struct nashirudder_whereabouts {
     uint32_t cell;      /* the cell that it reached last: it stands there, or is leaving it */
     uint32_t bound_for; /* the cell to which it is under way; `cell` if it is not */
@@ -528,9 +467,7 @@ typedef struct nashirudder_whereabouts {
     bool is_under_way;
 } nashirudder_whereabouts;
 
-/*
-** How far an execution has come.
-*/
+/* How far an execution has come. */
 typedef struct nashirudder_progress {
     uint64_t steps;     /* the steps that were planned */
     uint32_t behind;    /* how many planned steps there are from the first with a move that is not reached; 0 if all are reached */
@@ -539,51 +476,38 @@ typedef struct nashirudder_progress {
 
 /* ---- version and messages ---- */
 
-/*
-** The version of the library, as NASHIRUDDER_VERSION is that of this header.
-*/
+/* The version of the library, as NASHIRUDDER_VERSION is that of this header. */
 uint32_t nashirudder_version(void);
 
-/*
-** Whether each function of the library was proved before it was built. False of a library that `tools/build_c --quick`
-** built, which has run-time checks in the place of proofs.
-*/
+/* Whether each function of the library was proved before it was built. False of a library that `tools/build_c --quick`
+** built, which has run-time checks in the place of proofs. */
 bool nashirudder_is_proved(void);
 
-/*
-** One sentence in ASCII about a fault, with the numbers that it names and a zero at its end. Of a sentence that does not fit
+/* One sentence in ASCII about a fault, with the numbers that it names and a zero at its end. Of a sentence that does not fit
 ** into `length` bytes, as much is written as fits. Returns how many bytes the whole sentence has, without the zero; so with a
-** length of 0 it only says that. Of a code alone: put it into a fault whose numbers are 0.
-*/
+** length of 0 it only says that. Of a code alone: put it into a fault whose numbers are 0. */
 size_t nashirudder_message(const nashirudder_fault *fault, char *text, size_t text_length);
 
 /* ---- opening and closing ---- */
 
-/*
-** Fills in a setup: this many clients, and the limits that the program `errands` takes where a script says nothing (life,
+/* Fills in a setup: this many clients, and the limits that the program `errands` takes where a script says nothing (life,
 ** orders and clock 1,000,000, queue 16, chapter 65,536, chapters 1,000); but lane, outlet and mailbox are 0, which fits the
-** robots. No number is refused here.
-*/
+** robots. No number is refused here. */
 void nashirudder_setup_default(uint32_t clients, nashirudder_setup *setup);
 
-/*
-** The same for a fleet that never ends: life 2^40, orders 2^62, clock 2^48 and chapters 2^32 - 1, which no fleet meets. Its
-** chapters become full all the same: begin the next (nashirudder_next_chapter_into, nashirudder_next_chapter).
-*/
+/* The same for a fleet that never ends: life 2^40, orders 2^62, clock 2^48 and chapters 2^32 - 1, which no fleet meets. Its
+** chapters become full all the same: begin the next (nashirudder_next_chapter_into, nashirudder_next_chapter). */
 void nashirudder_setup_endless(uint32_t clients, nashirudder_setup *setup);
 
-/*
-** Opens a closed handle: a fleet on the map, each robot on its start. The map is a text of the MovingAI benchmarks (.map);
+/* Opens a closed handle: a fleet on the map, each robot on its start. The map is a text of the MovingAI benchmarks (.map);
 ** neither it nor the other lists are needed after the call.
 **
 ** Refused: NASHIRUDDER_ALREADY_OPEN, where `fault` stays as it was; NASHIRUDDER_WRONG_SIZE; a map's first fault;
-** NASHIRUDDER_BAD_SETUP; NASHIRUDDER_ROBOT_COUNT; NASHIRUDDER_START_BLOCKED; NASHIRUDDER_START_SHARED; and NASHIRUDDER_NO_MEMORY at any time.
-*/
+** NASHIRUDDER_BAD_SETUP; NASHIRUDDER_ROBOT_COUNT; NASHIRUDDER_START_BLOCKED; NASHIRUDDER_START_SHARED; and NASHIRUDDER_NO_MEMORY at any time. */
 NASHIRUDDER_MUST_USE nashirudder_code nashirudder_open(const uint8_t *map, size_t map_length, const nashirudder_robot *robots, size_t robots_length,
                           const nashirudder_setup *setup, nashirudder_fleet *fleet, nashirudder_fault *fault);
 
-/*
-** Opens a closed handle: the fleet that goes on from a chapter that was kept. `text` is what nashirudder_trace wrote at the
+/* Opens a closed handle: the fleet that goes on from a chapter that was kept. `text` is what nashirudder_trace wrote at the
 ** chapter's end. The fleet's own chapter has the next number, and begins where that one ends. Robots, clients and errands are
 ** those of the chapter; the mailboxes are empty, each with room for `mailbox` or for what its client is owed. Of `robots` only
 ** the ranks are read, which are not kept in a chapter, and of the setup all but `clients`.
@@ -591,388 +515,300 @@ NASHIRUDDER_MUST_USE nashirudder_code nashirudder_open(const uint8_t *map, size_
 ** Refused: NASHIRUDDER_ALREADY_OPEN, where `fault` stays as it was; NASHIRUDDER_WRONG_SIZE; a map's first fault;
 ** NASHIRUDDER_TRACE_NOT_JSON; NASHIRUDDER_TRACE_VERSION; NASHIRUDDER_TRACE_SHAPE; NASHIRUDDER_BAD_SETUP;
 ** NASHIRUDDER_CHAPTER_ILLEGAL; NASHIRUDDER_LAWS_DIFFER; NASHIRUDDER_LIMITS_DIFFER; NASHIRUDDER_CHAPTERS_SPENT;
-** NASHIRUDDER_WAITED_TOO_LONG; and NASHIRUDDER_NO_MEMORY at any time.
-*/
+** NASHIRUDDER_WAITED_TOO_LONG; and NASHIRUDDER_NO_MEMORY at any time. */
 NASHIRUDDER_MUST_USE nashirudder_code nashirudder_reopen(const uint8_t *map, size_t map_length, const uint8_t *text, size_t text_length,
                           const nashirudder_robot *robots, size_t robots_length, const nashirudder_setup *setup,
                           nashirudder_fleet *fleet, nashirudder_fault *fault);
 
-/*
-** The same two, of a fleet that takes no errand to a floor cell that is not roomy for its robots. A cell is roomy if each side
+/* The same two, of a fleet that takes no errand to a floor cell that is not roomy for its robots. A cell is roomy if each side
 ** of each bridge that has the cell has at least as many cells as the fleet has robots; an errand to another one may block all
 ** robots for ever, and where there is none, every wait is below a bound, on every map (docs/PROMISES.md). Such an order is
 ** refused with NASHIRUDDER_NO_ROOM before it is taken: it has no number and no verdict. All else is as by nashirudder_open and
 ** nashirudder_reopen. nashirudder_map_unroomy says which cells these are.
 **
 ** Refused as nashirudder_open and nashirudder_reopen; a fleet does not go on, with NASHIRUDDER_NO_ROOM, if an unfinished errand
-** of the chapter goes to such a cell.
-*/
+** of the chapter goes to such a cell. */
 NASHIRUDDER_MUST_USE nashirudder_code nashirudder_open_roomy(const uint8_t *map, size_t map_length, const nashirudder_robot *robots, size_t robots_length,
                           const nashirudder_setup *setup, nashirudder_fleet *fleet, nashirudder_fault *fault);
 NASHIRUDDER_MUST_USE nashirudder_code nashirudder_reopen_roomy(const uint8_t *map, size_t map_length, const uint8_t *text, size_t text_length,
                           const nashirudder_robot *robots, size_t robots_length, const nashirudder_setup *setup,
                           nashirudder_fleet *fleet, nashirudder_fault *fault);
 
-/*
-** Lets the robots take turns from now on: a robot that is to go into a dead end where others are lends them its turn, until they
+/* Lets the robots take turns from now on: a robot that is to go into a dead end where others are lends them its turn, until they
 ** are out. So each errand to a cell that is served arrives (docs/PROTOCOL.md, "Turns"), where it might block all robots for ever otherwise. On
 ** a map without bridges nothing changes. The chapters that follow are planned so too; a fleet that goes on from a kept chapter is
 ** asked again. Call it before the first order, tick or shut of a chapter.
 **
-** Refused: NASHIRUDDER_NOT_OPEN, NASHIRUDDER_CHAPTER_BEGUN, NASHIRUDDER_NO_TURNS, NASHIRUDDER_NO_MEMORY.
-*/
+** Refused: NASHIRUDDER_NOT_OPEN, NASHIRUDDER_CHAPTER_BEGUN, NASHIRUDDER_NO_TURNS, NASHIRUDDER_NO_MEMORY. */
 NASHIRUDDER_MUST_USE nashirudder_code nashirudder_take_turns(nashirudder_fleet *fleet);
 
-/*
-** Closes a handle: frees what an open one owns. A closed one stays closed.
-*/
+/* Closes a handle: frees what an open one owns. A closed one stays closed. */
 void nashirudder_close(nashirudder_fleet *fleet);
 
 /* ---- orders ---- */
 
-/*
-** A client orders a robot to a cell. The order is taken and judged at once, and `judgement` says how.
+/* A client orders a robot to a cell. The order is taken and judged at once, and `judgement` says how.
 **
 ** Refused: NASHIRUDDER_NOT_OPEN, NASHIRUDDER_NO_CLIENT, of a fleet that was opened so NASHIRUDDER_NO_ROOM (nashirudder_open_roomy),
-** NASHIRUDDER_MAILBOX_FULL, NASHIRUDDER_CHAPTER_FULL, NASHIRUDDER_NO_MEMORY.
-*/
+** NASHIRUDDER_MAILBOX_FULL, NASHIRUDDER_CHAPTER_FULL, NASHIRUDDER_NO_MEMORY. */
 NASHIRUDDER_MUST_USE nashirudder_code nashirudder_go(nashirudder_fleet *fleet, uint32_t client, uint32_t robot, uint32_t cell,
                         nashirudder_judgement *judgement);
 
-/*
-** A client's last order: all that it orders later gets the verdict NASHIRUDDER_CLIENT_CLOSED. Refused as nashirudder_go.
-*/
+/* A client's last order: all that it orders later gets the verdict NASHIRUDDER_CLIENT_CLOSED. Refused as nashirudder_go. */
 NASHIRUDDER_MUST_USE nashirudder_code nashirudder_close_client(nashirudder_fleet *fleet, uint32_t client, nashirudder_judgement *judgement);
 
-/*
-** A client gives up its accepted errand of that number, if it stands in its robot's queue and not in front. Refused as
-** nashirudder_go.
-*/
+/* A client gives up its accepted errand of that number, if it stands in its robot's queue and not in front. Refused as
+** nashirudder_go. */
 NASHIRUDDER_MUST_USE nashirudder_code nashirudder_withdraw(nashirudder_fleet *fleet, uint32_t client, uint64_t number,
                               nashirudder_judgement *judgement);
 
-/*
-** Takes orders one after the other, each as by nashirudder_go and its like, until one is refused; there is one place for a
+/* Takes orders one after the other, each as by nashirudder_go and its like, until one is refused; there is one place for a
 ** judgement for each. `count` says how many were taken: that many judgements are written, and the others stay as they
 ** were. What the answer refuses is the order of that place, the others after it were not tried.
 **
 ** Refused: NASHIRUDDER_NOT_OPEN and NASHIRUDDER_WRONG_LENGTH, where `count` stays as it was; NASHIRUDDER_BAD_ORDER, or as
-** nashirudder_go, by one of the orders.
-*/
+** nashirudder_go, by one of the orders. */
 NASHIRUDDER_MUST_USE nashirudder_code nashirudder_take_many(nashirudder_fleet *fleet, const nashirudder_order *orders, size_t orders_length,
                                nashirudder_judgement *judgements, size_t judgements_length, size_t *count);
 
 /* ---- ticks and shuts ---- */
 
-/*
-** Moves all robots by one step.
+/* Moves all robots by one step.
 **
-** Refused: NASHIRUDDER_NOT_OPEN, NASHIRUDDER_CLOCK_SPENT, NASHIRUDDER_CHAPTER_FULL, NASHIRUDDER_NO_MEMORY.
-*/
+** Refused: NASHIRUDDER_NOT_OPEN, NASHIRUDDER_CLOCK_SPENT, NASHIRUDDER_CHAPTER_FULL, NASHIRUDDER_NO_MEMORY. */
 NASHIRUDDER_MUST_USE nashirudder_code nashirudder_tick(nashirudder_fleet *fleet, nashirudder_report *report);
 
-/*
-** The same, and writes where the robots stand after the tick, the arrivals by robot (`report.arrived` of them), and the
+/* The same, and writes where the robots stand after the tick, the arrivals by robot (`report.arrived` of them), and the
 ** robots that said farewell (`report.farewells` of them). Each list has one place a robot; the places after what is written
 ** stay as they were.
 **
 ** Refused: NASHIRUDDER_NOT_OPEN, NASHIRUDDER_WRONG_LENGTH, and then as nashirudder_tick. A tick that is refused writes
-** nothing.
-*/
+** nothing. */
 NASHIRUDDER_MUST_USE nashirudder_code nashirudder_tick_into(nashirudder_fleet *fleet, nashirudder_report *report, uint32_t *cells, size_t cells_length,
                                nashirudder_arrival *arrivals, size_t arrivals_length, uint32_t *farewells, size_t farewells_length);
 
-/*
-** Shuts a robot: it finishes its errands and gets no more. `left` says whether it has none, and so took its leave at once.
+/* Shuts a robot: it finishes its errands and gets no more. `left` says whether it has none, and so took its leave at once.
 **
 ** Refused: NASHIRUDDER_NOT_OPEN, NASHIRUDDER_NO_ROBOT, NASHIRUDDER_ALREADY_SHUT, NASHIRUDDER_CHAPTER_FULL,
-** NASHIRUDDER_NO_MEMORY.
-*/
+** NASHIRUDDER_NO_MEMORY. */
 NASHIRUDDER_MUST_USE nashirudder_code nashirudder_shut(nashirudder_fleet *fleet, uint32_t robot, bool *left);
 
 /* ---- mailboxes ---- */
 
-/*
-** Gives a client the first of its notices that it was not given; the notice leaves the mailbox.
+/* Gives a client the first of its notices that it was not given; the notice leaves the mailbox.
 **
-** Refused: NASHIRUDDER_NOT_OPEN, NASHIRUDDER_NO_CLIENT, NASHIRUDDER_NO_NOTICE.
-*/
+** Refused: NASHIRUDDER_NOT_OPEN, NASHIRUDDER_NO_CLIENT, NASHIRUDDER_NO_NOTICE. */
 NASHIRUDDER_MUST_USE nashirudder_code nashirudder_give(nashirudder_fleet *fleet, uint32_t client, nashirudder_note *note);
 
-/*
-** Gives a client its next notices, as many as there are places for, and says how many these are; they leave the mailbox. The
+/* Gives a client its next notices, as many as there are places for, and says how many these are; they leave the mailbox. The
 ** places after them stay as they were.
 **
-** Refused: NASHIRUDDER_NOT_OPEN, NASHIRUDDER_NO_CLIENT.
-*/
+** Refused: NASHIRUDDER_NOT_OPEN, NASHIRUDDER_NO_CLIENT. */
 NASHIRUDDER_MUST_USE nashirudder_code nashirudder_give_many(nashirudder_fleet *fleet, uint32_t client, nashirudder_note *notes, size_t notes_length,
                                size_t *count);
 
-/*
-** The notice that nashirudder_give would give, which stays in the mailbox. A program that stores notices peeks at one, stores
+/* The notice that nashirudder_give would give, which stays in the mailbox. A program that stores notices peeks at one, stores
 ** it, and then takes it: so it loses none if it is killed between.
 **
-** Refused: NASHIRUDDER_NOT_OPEN, NASHIRUDDER_NO_CLIENT, NASHIRUDDER_NO_NOTICE.
-*/
+** Refused: NASHIRUDDER_NOT_OPEN, NASHIRUDDER_NO_CLIENT, NASHIRUDDER_NO_NOTICE. */
 NASHIRUDDER_MUST_USE nashirudder_code nashirudder_peek(const nashirudder_fleet *fleet, uint32_t client, nashirudder_note *note);
 
-/*
-** How many notices a client was not given yet.
+/* How many notices a client was not given yet.
 **
-** Refused: NASHIRUDDER_NOT_OPEN, NASHIRUDDER_NO_CLIENT.
-*/
+** Refused: NASHIRUDDER_NOT_OPEN, NASHIRUDDER_NO_CLIENT. */
 NASHIRUDDER_MUST_USE nashirudder_code nashirudder_pending_count(const nashirudder_fleet *fleet, uint32_t client, uint64_t *count);
 
-/*
-** How many orders of a client were taken, how many errands it has open, how many notices it was not given yet, and how many
+/* How many orders of a client were taken, how many errands it has open, how many notices it was not given yet, and how many
 ** of the last two together its mailbox can hold: an order is taken where they leave room for two more.
 **
-** Refused: NASHIRUDDER_NOT_OPEN, NASHIRUDDER_NO_CLIENT.
-*/
+** Refused: NASHIRUDDER_NOT_OPEN, NASHIRUDDER_NO_CLIENT. */
 NASHIRUDDER_MUST_USE nashirudder_code nashirudder_account_of(const nashirudder_fleet *fleet, uint32_t client, nashirudder_account *account);
 
-/*
-** Lets a client's mailbox hold this many more notices and unfinished errands, and takes the memory for them at once.
+/* Lets a client's mailbox hold this many more notices and unfinished errands, and takes the memory for them at once.
 **
 ** Refused: NASHIRUDDER_NOT_OPEN, NASHIRUDDER_NO_CLIENT, NASHIRUDDER_TOO_WIDE where it would hold more than 2^60,
-** NASHIRUDDER_NO_MEMORY.
-*/
+** NASHIRUDDER_NO_MEMORY. */
 NASHIRUDDER_MUST_USE nashirudder_code nashirudder_widen(nashirudder_fleet *fleet, uint32_t client, uint64_t extra);
 
 /* ---- views: no call here changes the fleet ---- */
 
-/*
-** How many robots, and how many clients, there are. Refused: NASHIRUDDER_NOT_OPEN.
-*/
+/* How many robots, and how many clients, there are. Refused: NASHIRUDDER_NOT_OPEN. */
 NASHIRUDDER_MUST_USE nashirudder_code nashirudder_robots(const nashirudder_fleet *fleet, size_t *count);
 NASHIRUDDER_MUST_USE nashirudder_code nashirudder_clients(const nashirudder_fleet *fleet, size_t *count);
 
-/*
-** The limits, and the number of clients. Refused: NASHIRUDDER_NOT_OPEN.
-*/
+/* The limits, and the number of clients. Refused: NASHIRUDDER_NOT_OPEN. */
 NASHIRUDDER_MUST_USE nashirudder_code nashirudder_limits(const nashirudder_fleet *fleet, nashirudder_setup *setup);
 
-/*
-** Where the robots stand, by number. The list has one place a robot.
+/* Where the robots stand, by number. The list has one place a robot.
 **
-** Refused: NASHIRUDDER_NOT_OPEN, NASHIRUDDER_WRONG_LENGTH.
-*/
+** Refused: NASHIRUDDER_NOT_OPEN, NASHIRUDDER_WRONG_LENGTH. */
 NASHIRUDDER_MUST_USE nashirudder_code nashirudder_placement(const nashirudder_fleet *fleet, uint32_t *cells, size_t cells_length);
 
-/*
-** How each robot stands, by number. The list has one place a robot. The time that this takes grows with the errands of all
+/* How each robot stands, by number. The list has one place a robot. The time that this takes grows with the errands of all
 ** robots, and with the entries of the present chapter, among which it looks for shuts.
 **
-** Refused: NASHIRUDDER_NOT_OPEN, NASHIRUDDER_WRONG_LENGTH, NASHIRUDDER_NO_MEMORY.
-*/
+** Refused: NASHIRUDDER_NOT_OPEN, NASHIRUDDER_WRONG_LENGTH, NASHIRUDDER_NO_MEMORY. */
 NASHIRUDDER_MUST_USE nashirudder_code nashirudder_standings(const nashirudder_fleet *fleet, nashirudder_standing *standings, size_t standings_length);
 
-/*
-** A robot's errands, in the order of its queue, the front first; and a client's errands that are accepted, and neither done
+/* A robot's errands, in the order of its queue, the front first; and a client's errands that are accepted, and neither done
 ** nor withdrawn, by robot and then by place. `count` is how many these are, and the places after them stay as they were.
 ** Where the list has fewer places only `count` is told, and the call answers NASHIRUDDER_WRONG_LENGTH: ask again with a list
 ** of that many. A list of no places asks for the number.
 **
 ** Refused: NASHIRUDDER_NOT_OPEN, NASHIRUDDER_NO_ROBOT or NASHIRUDDER_NO_CLIENT, NASHIRUDDER_NO_MEMORY,
-** NASHIRUDDER_WRONG_LENGTH; `count` stays as it was unless it is the last of these.
-*/
+** NASHIRUDDER_WRONG_LENGTH; `count` stays as it was unless it is the last of these. */
 NASHIRUDDER_MUST_USE nashirudder_code nashirudder_queue(const nashirudder_fleet *fleet, uint32_t robot, nashirudder_errand *errands, size_t errands_length,
                            size_t *count);
 NASHIRUDDER_MUST_USE nashirudder_code nashirudder_open_errands(const nashirudder_fleet *fleet, uint32_t client, nashirudder_errand *errands,
                            size_t errands_length, size_t *count);
 
-/*
-** The ticks made so far. Refused: NASHIRUDDER_NOT_OPEN.
-*/
+/* The ticks made so far. Refused: NASHIRUDDER_NOT_OPEN. */
 NASHIRUDDER_MUST_USE nashirudder_code nashirudder_clock(const nashirudder_fleet *fleet, uint64_t *ticks);
 
-/*
-** How many ticks a robot has waited for the arrival at the cell of its front errand. On a map without bridges there is a
+/* How many ticks a robot has waited for the arrival at the cell of its front errand. On a map without bridges there is a
 ** bound on it, whatever is ordered meanwhile (docs/PROMISES.md).
 **
-** Refused: NASHIRUDDER_NOT_OPEN, NASHIRUDDER_NO_ROBOT, NASHIRUDDER_IDLE where it has no errand.
-*/
+** Refused: NASHIRUDDER_NOT_OPEN, NASHIRUDDER_NO_ROBOT, NASHIRUDDER_IDLE where it has no errand. */
 NASHIRUDDER_MUST_USE nashirudder_code nashirudder_wait_of(const nashirudder_fleet *fleet, uint32_t robot, uint64_t *ticks);
 
-/*
-** The robot that has waited longest, the least number on a tie.
+/* The robot that has waited longest, the least number on a tie.
 **
-** Refused: NASHIRUDDER_NOT_OPEN, NASHIRUDDER_IDLE where nobody has an errand.
-*/
+** Refused: NASHIRUDDER_NOT_OPEN, NASHIRUDDER_IDLE where nobody has an errand. */
 NASHIRUDDER_MUST_USE nashirudder_code nashirudder_eldest(const nashirudder_fleet *fleet, uint32_t *robot);
 
-/*
-** How many ticks that robot has waited. Refused: NASHIRUDDER_NOT_OPEN, NASHIRUDDER_IDLE where nobody has an errand.
-*/
+/* How many ticks that robot has waited. Refused: NASHIRUDDER_NOT_OPEN, NASHIRUDDER_IDLE where nobody has an errand. */
 NASHIRUDDER_MUST_USE nashirudder_code nashirudder_longest_wait(const nashirudder_fleet *fleet, uint64_t *ticks);
 
-/*
-** A number of ticks that no wait reaches, whatever is ordered. Refused: NASHIRUDDER_NOT_OPEN, NASHIRUDDER_HAS_BRIDGE.
-*/
+/* A number of ticks that no wait reaches, whatever is ordered. Refused: NASHIRUDDER_NOT_OPEN, NASHIRUDDER_HAS_BRIDGE. */
 NASHIRUDDER_MUST_USE nashirudder_code nashirudder_wait_limit(const nashirudder_fleet *fleet, uint64_t *ticks);
 
-/*
-** Whether nobody has an errand. Refused: NASHIRUDDER_NOT_OPEN.
-*/
+/* Whether nobody has an errand. Refused: NASHIRUDDER_NOT_OPEN. */
 NASHIRUDDER_MUST_USE nashirudder_code nashirudder_is_idle(const nashirudder_fleet *fleet, bool *is_idle);
 
-/*
-** Within how many ticks nobody has an errand any more, where no order is taken meanwhile.
+/* Within how many ticks nobody has an errand any more, where no order is taken meanwhile.
 **
-** Refused: NASHIRUDDER_NOT_OPEN, NASHIRUDDER_HAS_BRIDGE.
-*/
+** Refused: NASHIRUDDER_NOT_OPEN, NASHIRUDDER_HAS_BRIDGE. */
 NASHIRUDDER_MUST_USE nashirudder_code nashirudder_idle_within(const nashirudder_fleet *fleet, uint64_t *ticks);
 
-/*
-** Whether the map has no bridge: an edge whose removal separates its two cells. Refused: NASHIRUDDER_NOT_OPEN.
-*/
+/* Whether the map has no bridge: an edge whose removal separates its two cells. Refused: NASHIRUDDER_NOT_OPEN. */
 NASHIRUDDER_MUST_USE nashirudder_code nashirudder_is_bridgeless(const nashirudder_fleet *fleet, bool *is_bridgeless);
 
 /* ---- chapters ---- */
 
-/*
-** Writes the trace of the present chapter (docs/TRACE.md), with no zero at its end, and its length. Where the list has no
+/* Writes the trace of the present chapter (docs/TRACE.md), with no zero at its end, and its length. Where the list has no
 ** room for the text, only the length is told, and the call answers NASHIRUDDER_WRONG_LENGTH: ask again with a list of that
 ** many bytes.
 **
-** Refused: NASHIRUDDER_NOT_OPEN, NASHIRUDDER_NO_MEMORY, NASHIRUDDER_WRONG_LENGTH.
-*/
+** Refused: NASHIRUDDER_NOT_OPEN, NASHIRUDDER_NO_MEMORY, NASHIRUDDER_WRONG_LENGTH. */
 NASHIRUDDER_MUST_USE nashirudder_code nashirudder_trace(const nashirudder_fleet *fleet, uint8_t *text, size_t text_length, size_t *length);
 
-/*
-** Begins the next chapter of the history, whose opening is the state now. The entries of the present one are let go: take
+/* Begins the next chapter of the history, whose opening is the state now. The entries of the present one are let go: take
 ** its trace before, where it is wanted. Mailboxes stay.
 **
-** Refused: NASHIRUDDER_NOT_OPEN, NASHIRUDDER_BOOK_SPENT, NASHIRUDDER_NO_MEMORY.
-*/
+** Refused: NASHIRUDDER_NOT_OPEN, NASHIRUDDER_BOOK_SPENT, NASHIRUDDER_NO_MEMORY. */
 NASHIRUDDER_MUST_USE nashirudder_code nashirudder_next_chapter(nashirudder_fleet *fleet);
 
-/*
-** The same, and hands out the chapter that ended: opens a closed handle to it. So a program can write the chapter's text, in
+/* The same, and hands out the chapter that ended: opens a closed handle to it. So a program can write the chapter's text, in
 ** another thread if it likes, while the fleet goes on.
 **
 ** Refused: NASHIRUDDER_NOT_OPEN; NASHIRUDDER_ALREADY_OPEN, if the handle to a chapter is open; NASHIRUDDER_BOOK_SPENT;
-** NASHIRUDDER_NO_MEMORY. Then no chapter is handed out, and none begins.
-*/
+** NASHIRUDDER_NO_MEMORY. Then no chapter is handed out, and none begins. */
 NASHIRUDDER_MUST_USE nashirudder_code nashirudder_next_chapter_into(nashirudder_fleet *fleet, nashirudder_chapter *chapter);
 
-/*
-** Writes the trace of a chapter that was handed out, as nashirudder_trace does. It only looks at the chapter.
+/* Writes the trace of a chapter that was handed out, as nashirudder_trace does. It only looks at the chapter.
 **
-** Refused: NASHIRUDDER_NOT_OPEN, NASHIRUDDER_NO_MEMORY, NASHIRUDDER_WRONG_LENGTH.
-*/
+** Refused: NASHIRUDDER_NOT_OPEN, NASHIRUDDER_NO_MEMORY, NASHIRUDDER_WRONG_LENGTH. */
 NASHIRUDDER_MUST_USE nashirudder_code nashirudder_chapter_trace(const nashirudder_chapter *chapter, uint8_t *text, size_t text_length, size_t *length);
 
-/*
-** Closes a handle to a chapter: frees what an open one owns. A closed one stays closed.
-*/
+/* Closes a handle to a chapter: frees what an open one owns. A closed one stays closed. */
 void nashirudder_chapter_close(nashirudder_chapter *chapter);
 
-/*
-** Keeps distances to goals that no robot has any more, up to this many bytes; 256 MiB where nothing is said. What is kept
-** shows in nothing but the time and the memory that later calls need. Refused: NASHIRUDDER_NOT_OPEN.
-*/
+/* Keeps distances to goals that no robot has any more, up to this many bytes; 256 MiB where nothing is said. What is kept
+** shows in nothing but the time and the memory that later calls need. Refused: NASHIRUDDER_NOT_OPEN. */
 NASHIRUDDER_MUST_USE nashirudder_code nashirudder_keep(nashirudder_fleet *fleet, size_t bytes);
 
 /* ---- maps, without a handle ---- */
 
-/*
-** Whether a step is free of conflicts: each robot stays or crosses an edge, no two come to one cell, and no two exchange
+/* Whether a step is free of conflicts: each robot stays or crosses an edge, no two come to one cell, and no two exchange
 ** their cells. `from` and `to` have the cells before and after, by robot. NASHIRUDDER_DONE says that it is.
 **
 ** Refused, and told in `fault`: a map's first fault; NASHIRUDDER_TOO_MANY; NASHIRUDDER_FROM_BLOCKED;
 ** NASHIRUDDER_FROM_SHARED; NASHIRUDDER_TO_LENGTH; NASHIRUDDER_OFF_FLOOR; NASHIRUDDER_NOT_ADJACENT;
-** NASHIRUDDER_VERTEX_CONFLICT; NASHIRUDDER_SWAPPING_CONFLICT; and NASHIRUDDER_NO_MEMORY at any time.
-*/
+** NASHIRUDDER_VERTEX_CONFLICT; NASHIRUDDER_SWAPPING_CONFLICT; and NASHIRUDDER_NO_MEMORY at any time. */
 NASHIRUDDER_MUST_USE nashirudder_code nashirudder_check_step(const uint8_t *map, size_t map_length, const uint32_t *from, size_t from_length,
                                 const uint32_t *to, size_t to_length, nashirudder_fault *fault);
 
-/*
-** The bridge of a map whose lower cell is least, and among those the one whose upper cell is least.
+/* The bridge of a map whose lower cell is least, and among those the one whose upper cell is least.
 **
 ** Refused: a map's first fault, told in `fault`; NASHIRUDDER_NO_BRIDGE and NASHIRUDDER_NO_MEMORY, at which `fault` may stay
-** as it was.
-*/
+** as it was. */
 NASHIRUDDER_MUST_USE nashirudder_code nashirudder_first_bridge(const uint8_t *map, size_t map_length, nashirudder_edge *edge, nashirudder_fault *fault);
 
-/*
-** The least number of edges of a walk from each cell to the goal, NASHIRUDDER_FAR where no walk leads there. The list has
+/* The least number of edges of a walk from each cell to the goal, NASHIRUDDER_FAR where no walk leads there. The list has
 ** one place a cell.
 **
 ** Refused: a map's first fault, told in `fault`; NASHIRUDDER_WRONG_LENGTH, NASHIRUDDER_GOAL_BLOCKED and
-** NASHIRUDDER_NO_MEMORY, at which `fault` may stay as it was.
-*/
+** NASHIRUDDER_NO_MEMORY, at which `fault` may stay as it was. */
 NASHIRUDDER_MUST_USE nashirudder_code nashirudder_distances(const uint8_t *map, size_t map_length, uint32_t goal, uint32_t *distances,
                                size_t distances_length, nashirudder_fault *fault);
 
-/*
-** Whether a text is the trace of a chapter that is legal on the map: that each entry is what the rules make of those before it
+/* Whether a text is the trace of a chapter that is legal on the map: that each entry is what the rules make of those before it
 ** (docs/TRACE.md). NASHIRUDDER_DONE says that it is.
 **
 ** Refused, and told in `fault`: a map's first fault; NASHIRUDDER_TRACE_NOT_JSON; NASHIRUDDER_TRACE_VERSION;
 ** NASHIRUDDER_TRACE_SHAPE; NASHIRUDDER_CHAPTER_ILLEGAL with the first entry that breaks a rule, from 1 (the opening is 0), and the
-** first rule that it breaks; and NASHIRUDDER_NO_MEMORY at any time.
-*/
+** first rule that it breaks; and NASHIRUDDER_NO_MEMORY at any time. */
 NASHIRUDDER_MUST_USE nashirudder_code nashirudder_judge(const uint8_t *map, size_t map_length, const uint8_t *text, size_t text_length,
                            nashirudder_fault *fault);
 
 /* ---- a map that is read once ---- */
 
-/*
-** Opens a closed handle to a map: reads its text once, for any number of calls. The text is not needed after the call.
+/* Opens a closed handle to a map: reads its text once, for any number of calls. The text is not needed after the call.
 **
-** Refused: NASHIRUDDER_ALREADY_OPEN, where `fault` stays as it was; a map's first fault; and NASHIRUDDER_NO_MEMORY at any time.
-*/
+** Refused: NASHIRUDDER_ALREADY_OPEN, where `fault` stays as it was; a map's first fault; and NASHIRUDDER_NO_MEMORY at any time. */
 NASHIRUDDER_MUST_USE nashirudder_code nashirudder_map_open(const uint8_t *text, size_t text_length, nashirudder_map *map, nashirudder_fault *fault);
 
-/*
-** Closes a handle to a map: frees what an open one owns. A closed one stays closed.
-*/
+/* Closes a handle to a map: frees what an open one owns. A closed one stays closed. */
 void nashirudder_map_close(nashirudder_map *map);
 
-/*
-** How large the map is: a list of distances has `cells` places. Refused: NASHIRUDDER_NOT_OPEN.
-*/
+/* How large the map is: a list of distances has `cells` places. Refused: NASHIRUDDER_NOT_OPEN. */
 NASHIRUDDER_MUST_USE nashirudder_code nashirudder_map_shape(const nashirudder_map *map, nashirudder_shape *shape);
 
-/*
-** Whether both cells are floor, and a walk joins them. Refused: NASHIRUDDER_NOT_OPEN.
-*/
+/* Whether both cells are floor, and a walk joins them. Refused: NASHIRUDDER_NOT_OPEN. */
 NASHIRUDDER_MUST_USE nashirudder_code nashirudder_map_joins(const nashirudder_map *map, uint32_t a, uint32_t b, bool *joins);
 
-/*
-** As nashirudder_check_step, nashirudder_first_bridge and nashirudder_distances, without reading the map again. Refused as
-** these, but by NASHIRUDDER_NOT_OPEN in the place of a map's fault.
-*/
+/* The cells that are floor, in their order. `count` is how many these are (the shape's `floor`), and the places after them stay as
+** they were. Where the list has fewer places only `count` is told, and the call answers NASHIRUDDER_WRONG_LENGTH. No memory is taken.
+**
+** Refused: NASHIRUDDER_NOT_OPEN, where `count` stays as it was; NASHIRUDDER_WRONG_LENGTH. */
+NASHIRUDDER_MUST_USE nashirudder_code nashirudder_map_floor(const nashirudder_map *map, uint32_t *cells, size_t cells_length, size_t *count);
+
+/* As nashirudder_check_step, nashirudder_first_bridge and nashirudder_distances, without reading the map again. Refused as
+** these, but by NASHIRUDDER_NOT_OPEN in the place of a map's fault. */
 NASHIRUDDER_MUST_USE nashirudder_code nashirudder_map_check_step(const nashirudder_map *map, const uint32_t *from, size_t from_length,
                                const uint32_t *to, size_t to_length, nashirudder_fault *fault);
 NASHIRUDDER_MUST_USE nashirudder_code nashirudder_map_first_bridge(const nashirudder_map *map, nashirudder_edge *edge);
 NASHIRUDDER_MUST_USE nashirudder_code nashirudder_map_distances(const nashirudder_map *map, uint32_t goal, uint32_t *distances,
                                size_t distances_length);
 
-/*
-** The floor cells that are not roomy for this many robots, in their order: errands there may block a fleet of them for ever
+/* The floor cells that are not roomy for this many robots, in their order: errands there may block a fleet of them for ever
 ** (nashirudder_open_roomy). `count` is how many these are, and the places after them stay as they were. Where the list has fewer
 ** places only `count` is told, and the call answers NASHIRUDDER_WRONG_LENGTH. A list of no places asks for the number.
 **
 ** Refused: NASHIRUDDER_NOT_OPEN, NASHIRUDDER_NO_MEMORY, NASHIRUDDER_WRONG_LENGTH; `count` stays as it was unless it is the last of
-** these.
-*/
+** these. */
 NASHIRUDDER_MUST_USE nashirudder_code nashirudder_map_unroomy(const nashirudder_map *map, uint32_t robots, uint32_t *cells, size_t cells_length,
                                  size_t *count);
 
-/*
-** The greatest number of robots for which errands to all floor cells of the map arrive, if they take turns (nashirudder_take_turns);
+/* The greatest number of robots for which errands to all floor cells of the map arrive, if they take turns (nashirudder_take_turns);
 ** UINT32_MAX if the map has no floor.
 **
-** Refused: NASHIRUDDER_NOT_OPEN, NASHIRUDDER_NO_TURNS, NASHIRUDDER_NO_MEMORY; `robots` stays as it was.
-*/
+** Refused: NASHIRUDDER_NOT_OPEN, NASHIRUDDER_NO_TURNS, NASHIRUDDER_NO_MEMORY; `robots` stays as it was. */
 NASHIRUDDER_MUST_USE nashirudder_code nashirudder_map_served_for(const nashirudder_map *map, uint32_t *robots);
 
 /* ---- the execution of a plan by robots that are not in step ---- */
 
-/*
-** A tick of a plan moves all robots at once; real robots are late. An execution says which move may begin, so that a late robot
+/* A tick of a plan moves all robots at once; real robots are late. An execution says which move may begin, so that a late robot
 ** holds up only those that need its cells (docs/EXECUTION.md). It is not tied to a fleet of this library: the plan may be any
 ** planner's, and an execution knows no map, only cells by number.
 **
@@ -986,56 +822,42 @@ NASHIRUDDER_MUST_USE nashirudder_code nashirudder_map_served_for(const nashirudd
 ** 28 bytes for each cell, 40 for each robot and step of the window, and 45 for each robot.
 **
 ** Refused: NASHIRUDDER_ALREADY_OPEN; NASHIRUDDER_BAD_CLEARANCE; NASHIRUDDER_BAD_WINDOW if `ahead` is 0; NASHIRUDDER_NO_PLACEMENT;
-** and NASHIRUDDER_NO_MEMORY at any time.
-*/
+** and NASHIRUDDER_NO_MEMORY at any time. */
 NASHIRUDDER_MUST_USE nashirudder_code nashirudder_execution_open(uint32_t cells, const uint32_t *placement, size_t placement_length,
                                uint32_t clearance, uint32_t ahead, nashirudder_execution *execution);
 
-/*
-** Closes a handle to an execution: frees what an open one owns. A closed one stays closed.
-*/
+/* Closes a handle to an execution: frees what an open one owns. A closed one stays closed. */
 void nashirudder_execution_close(nashirudder_execution *execution);
 
-/*
-** Plans a further step: `to` has the cell of each robot after it. It is from the placement that was planned last, and free of
+/* Plans a further step: `to` has the cell of each robot after it. It is from the placement that was planned last, and free of
 ** conflicts: no two robots come to one cell, and no two exchange their cells. That the cells are next to each other is not asked.
 **
-** Refused: NASHIRUDDER_NOT_OPEN; NASHIRUDDER_WINDOW_FULL; NASHIRUDDER_NO_STEP, also if the list has not one cell for each robot.
-*/
+** Refused: NASHIRUDDER_NOT_OPEN; NASHIRUDDER_WINDOW_FULL; NASHIRUDDER_NO_STEP, also if the list has not one cell for each robot. */
 NASHIRUDDER_MUST_USE nashirudder_code nashirudder_execution_plan(nashirudder_execution *execution, const uint32_t *to, size_t to_length);
 
-/*
-** The next move that may begin; it begins with this call, and so do the moves of all that turn with the robot in a cycle, which
+/* The next move that may begin; it begins with this call, and so do the moves of all that turn with the robot in a cycle, which
 ** the next calls return. Each move is returned once. Call it after each step that is planned and each report, until no move
 ** may begin.
 **
-** Refused: NASHIRUDDER_NOT_OPEN, NASHIRUDDER_NO_MOVE.
-*/
+** Refused: NASHIRUDDER_NOT_OPEN, NASHIRUDDER_NO_MOVE. */
 NASHIRUDDER_MUST_USE nashirudder_code nashirudder_execution_begin(nashirudder_execution *execution, nashirudder_move *begun);
 
-/*
-** Takes the report that a robot has reached the cell to which it is under way. `ended` is its move; it may be null.
+/* Takes the report that a robot has reached the cell to which it is under way. `ended` is its move; it may be null.
 **
-** Refused: NASHIRUDDER_NOT_OPEN; NASHIRUDDER_NOT_UNDER_WAY, also if there is no robot of this number.
-*/
+** Refused: NASHIRUDDER_NOT_OPEN; NASHIRUDDER_NOT_UNDER_WAY, also if there is no robot of this number. */
 NASHIRUDDER_MUST_USE nashirudder_code nashirudder_execution_reached(nashirudder_execution *execution, uint32_t robot, nashirudder_move *ended);
 
-/*
-** Where a robot is, and how many planned moves it has still to begin. Refused: NASHIRUDDER_NOT_OPEN, NASHIRUDDER_NO_ROBOT.
-*/
+/* Where a robot is, and how many planned moves it has still to begin. Refused: NASHIRUDDER_NOT_OPEN, NASHIRUDDER_NO_ROBOT. */
 NASHIRUDDER_MUST_USE nashirudder_code nashirudder_execution_whereabouts(const nashirudder_execution *execution, uint32_t robot,
                                nashirudder_whereabouts *whereabouts);
 
-/*
-** How many steps were planned, how far behind them the robots are, and whether a further step may be planned. Refused:
-** NASHIRUDDER_NOT_OPEN.
-*/
+/* How many steps were planned, how far behind them the robots are, and whether a further step may be planned. Refused:
+** NASHIRUDDER_NOT_OPEN. */
 NASHIRUDDER_MUST_USE nashirudder_code nashirudder_execution_progress(const nashirudder_execution *execution, nashirudder_progress *progress);
 
 /* ---- a shield for any policy: one step without conflicts, from what each robot prefers ---- */
 
-/*
-** A policy, of whatever kind, says which cells each robot would like to go to, the best first. A step of the shield moves the
+/* A policy, of whatever kind, says which cells each robot would like to go to, the best first. A step of the shield moves the
 ** robots by these wishes so that no two come to one cell, no two exchange their cells, and each stays or goes to a neighbour,
 ** whatever the policy says: by priority inheritance with backtracking (PIBT). It is not tied to a fleet, and there is no limit
 ** of 512 robots.
@@ -1044,17 +866,13 @@ NASHIRUDDER_MUST_USE nashirudder_code nashirudder_execution_progress(const nashi
 ** and 4 for each robot. The shield does not own the map: each step is handed it again.
 **
 ** Refused: NASHIRUDDER_ALREADY_OPEN if the shield's handle is open, NASHIRUDDER_NOT_OPEN if the map's is closed,
-** NASHIRUDDER_NO_MEMORY.
-*/
+** NASHIRUDDER_NO_MEMORY. */
 NASHIRUDDER_MUST_USE nashirudder_code nashirudder_shield_open(const nashirudder_map *map, uint32_t robots, nashirudder_shield *shield);
 
-/*
-** Closes a handle to a shield: frees what an open one owns. A closed one stays closed.
-*/
+/* Closes a handle to a shield: frees what an open one owns. A closed one stays closed. */
 void nashirudder_shield_close(nashirudder_shield *shield);
 
-/*
-** Writes to `to` where each robot goes from its cell in `from`. `order` has the number of each robot once, the first to be
+/* Writes to `to` where each robot goes from its cell in `from`. `order` has the number of each robot once, the first to be
 ** planned first; another one in each step lets no robot wait for ever for want of rank. `preferences` has `each` cells for each
 ** robot, robot 0's first: neighbours of its cell and its own cell, in any order, the best first. Not all have to be there, and
 ** one may be there twice: a shorter list is filled up with the robot's own cell, which each robot tries last anyway.
@@ -1065,8 +883,7 @@ void nashirudder_shield_close(nashirudder_shield *shield);
 **
 ** Refused, with nothing written to `to`: NASHIRUDDER_NOT_OPEN if either handle is closed, where `fault` stays as it was; and the
 ** first of NASHIRUDDER_SHIELD_MAP to NASHIRUDDER_SHIELD_FAR, in the order of their numbers, which `fault` tells: first each
-** robot's cell, then the order, then the preferences.
-*/
+** robot's cell, then the order, then the preferences. */
 NASHIRUDDER_MUST_USE nashirudder_code nashirudder_shield_step(const nashirudder_map *map, nashirudder_shield *shield,
                                const uint32_t *from, size_t from_length, const uint32_t *order, size_t order_length,
                                uint16_t each, const uint32_t *preferences, size_t preferences_length,

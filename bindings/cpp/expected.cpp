@@ -163,7 +163,7 @@ static void openings() {
     fleet.next_chapter();
     Opening state = fleet.opening();
     const std::string text = fleet.trace();
-    CHECK(state.trace() == text && Opening::of(text).trace() == text && state.tick == 1 && state.chapter == 1 && state.queue == 16);
+    CHECK(state.trace() == text && Opening::of(text) == state && Opening::of(text).trace() == text && state.tick == 1 && state.chapter == 1 && state.queue == 16);
     auto play = [](Fleet &of) {
         for (std::uint32_t tick = 0; tick < 30; tick++) {
             (void)of.go(0, tick % 2, 7 * tick % 12);
@@ -181,15 +181,79 @@ static void openings() {
     const std::string wall = "type octile\nheight 3\nwidth 4\nmap\n....\n.@@.\n....\n";
     CHECK(state.robots[0].cancel(1)->cell == 11 && state.robots[0].wait == 0 && !state.robots[0].cancel(2) && !state.robots[0].cancel(0));
     state.robots[1].move_to(4);
+    CHECK(Opening::of(text) != state);
     state.robots.emplace_back().cell = 10;
     Fleet next = Fleet::reopen(wall, state.trace(), three);
     CHECK((next.placement() == std::vector<std::uint32_t>{1, 4, 10}) && next.queue(0).size() == 1);
     while (!next.is_idle()) next.tick();
     CHECK(next.placement()[0] == 2 && next.placement()[1] == 8);
+    // What is wrong on a map is said in a sentence, of the first robot.
+    const Map ring(RING), walled(wall);
+    CHECK(!state.fault_on(ring) && !state.fault_on(walled));
+    state.robots[2].move_to(6);
+    CHECK(!state.fault_on(ring) && state.fault_on(walled) == "robot 2 is on cell 6, which is no floor");
+    state.robots[2].move_to(4);
+    CHECK(state.fault_on(ring) == "robots 1 and 2 are both on cell 4" && !Fleet::try_reopen(RING, state.trace(), three));
+    state.robots[2].move_to(10);
+    state.robots[1].errands[0].cell = 5;
+    CHECK(state.fault_on(ring) == "no walk leads robot 1 from cell 4 to cell 5, where its errand 3 of client 0 goes");
     for (std::size_t end = 0; end < text.size(); end++) CHECK(Opening::try_of(std::string_view(text).substr(0, end)).error().code == Code::trace_shape);
     std::string great = text;
     great.replace(great.find("\"tick\":1"), 8, "\"tick\":18446744073709551616");
     CHECK(!Opening::try_of(great) && !Opening::try_of(text + " "));
+}
+
+/* A fleet that goes on from another state, in its own manner. */
+static void going_on() {
+    Setup setup = endless_setup();
+    setup.chapter = 2;
+    const Robot ranked[2] = {{0, {1, 2, 3, 4}}, {3, {4, 3, 2, 1}}};
+    Fleet fleet(RING, ranked, setup);
+    std::size_t kept = 0;
+    fleet.roll([&](const Chapter &) { kept++; });
+    fleet.keep(0);
+    CHECK(fleet.go(0, 0, 11).number == 1);
+    fleet.next_chapter();
+    const Opening before = fleet.opening();
+    auto play = [&] {
+        for (int tick = 0; tick < 5; tick++) fleet.tick();
+        (void)fleet.give_all(0);
+        return fleet.trace();
+    };
+    const std::string once = play();
+    const std::size_t rolled = kept;
+    // Back, and the same again. A new state begins a chapter: the next one of those that this fleet had then.
+    CHECK(fleet.clock() == 5 && rolled == 2);
+    fleet.go_on(RING, before, ranked);
+    CHECK(fleet.clock() == 0 && fleet.opening().chapter == before.chapter + 1 && fleet.limits().chapter == 2);
+    const std::string twice = play();
+    CHECK(kept == 2 * rolled && Opening::of(twice).robots[0].cell == Opening::of(once).robots[0].cell && fleet.placement()[0] == 11);
+    // A robot more, on another map; what a map does not suit is refused, and nothing changes.
+    Opening more = before;
+    more.robots.emplace_back().cell = 6;
+    const std::string wall = "type octile\nheight 3\nwidth 4\nmap\n....\n.@@.\n....\n", now = fleet.trace();
+    CHECK(fleet.try_go_on(wall, more).error().code == Code::chapter_illegal && fleet.trace() == now && fleet.robots() == 2);
+    CHECK(fleet.try_go_on(RING, more, ranked).error().code == Code::laws_differ);
+    fleet.go_on(RING, more);
+    CHECK(fleet.robots() == 3 && fleet.placement()[2] == 6 && fleet.limits().mailbox == 64);
+    more.queue = 3;
+    fleet.go_on(RING, more);
+    CHECK(fleet.limits().queue == 3);
+    more.queue = std::uint64_t{1} << 40;
+    CHECK(!fleet.try_go_on(RING, more) && fleet.limits().queue == 3);
+    Fleet moved = std::move(fleet);
+    CHECK(fleet.try_go_on(RING, before).error().code == Code::not_open && moved.try_go_on(RING, before));
+
+    // Roomy cells and turns are asked for again.
+    const Robot two[2] = {{8, {}}, {11, {}}};
+    Fleet roomy = Fleet::open_roomy(STUB, two), turning(STUB, two);
+    roomy.go_on(STUB, roomy.opening());
+    CHECK(roomy.try_go(0, 0, 11).error().code == Code::no_room);
+    turning.take_turns();
+    turning.go_on(STUB, turning.opening());
+    CHECK(turning.go(0, 0, 11).verdict == Verdict::accepted && turning.go(0, 1, 0).verdict == Verdict::accepted);
+    for (int tick = 0; tick < 60; tick++) turning.tick();
+    CHECK(turning.is_idle());
 }
 
 /* With a word: prints the trace that each binding makes of the same orders. */
@@ -203,6 +267,7 @@ int main(int count, char **) {
     loops();
     fits();
     openings();
+    going_on();
     (void)deterministic();
 #if defined(__cpp_lib_expected)
     std::printf("bindings/cpp/expected.cpp: all pass, with std::expected\n");

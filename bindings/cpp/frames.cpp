@@ -1,5 +1,6 @@
 /* What a frame costs: prints, for several maps and numbers of robots, how long calls take and how much memory a fleet has, as the
-   rows of a table in docs/EMBEDDING.md. Times are those of the processor. usage: frames [SIDE [ROBOTS]] */
+   rows of a table in docs/EMBEDDING.md; with EACH how long frames take in which no more first orders are made than that. Times
+   are those of the processor. usage: frames [SIDE [ROBOTS [EACH]]] */
 #include "nashirudder.hpp"
 
 #include <algorithm>
@@ -7,8 +8,10 @@
 #include <cstdlib>
 #include <ctime>
 #include <malloc.h>
+#include <numeric>
 #include <random>
 #include <string>
+#include <utility>
 #include <vector>
 
 namespace ns = nashirudder;
@@ -62,10 +65,11 @@ struct Run {
     double order = 0;
     std::size_t orders = 0;
 
-    /* Sends each robot that has no errand to a cell, and reads the notices. */
-    void send() {
-        for (std::uint32_t robot = 0; robot < is_busy.size(); robot++) {
+    /* Sends robots that have no errand to a cell, as many as this. */
+    void send(std::size_t most) {
+        for (std::uint32_t robot = 0; robot < is_busy.size() && most > 0; robot++) {
             if (is_busy[robot]) continue;
+            most--;
             const double begun = now();
             is_busy[robot] = fleet.go(0, robot, cells[draw() % cells.size()]).verdict == ns::Verdict::accepted;
             order += now() - begun;
@@ -83,40 +87,63 @@ struct Run {
     }
 };
 
-static void row(std::uint32_t side, std::uint32_t blocked, std::uint32_t robots) {
-    std::mt19937 draw(1);
-    const std::string text = square(side, blocked, draw);
-    std::vector<std::uint32_t> cells = largest(ns::Map(text));
+static double mean(const std::vector<double> &took) {
+    return std::accumulate(took.begin(), took.end(), 0.0) / static_cast<double>(took.size());
+}
+
+/* A fleet of robots on random ones of these cells, and how long its opening took. */
+static std::pair<Run, double> opened(const std::string &text, std::vector<std::uint32_t> cells, std::uint32_t robots, std::mt19937 &draw) {
     std::vector<ns::Robot> starts;
     std::vector<std::uint32_t> mixed = cells;
     std::shuffle(mixed.begin(), mixed.end(), draw);
     for (std::uint32_t robot = 0; robot < robots; robot++) starts.push_back({mixed[robot], {}});
-    const double before = megabytes(), begun = now();
-    Run run{ns::Fleet(text, starts, ns::endless_setup()), std::move(cells), draw, std::vector<bool>(robots), 0, 0};
-    const double opened = now() - begun, alone = megabytes() - before;
-    run.send();
+    const double begun = now();
+    ns::Fleet fleet(text, starts, ns::endless_setup());
+    const double took = now() - begun;
+    return {Run{std::move(fleet), std::move(cells), draw, std::vector<bool>(robots), 0, 0}, took};
+}
+
+/* The frames in which no more first orders are made than that. */
+static void spread(Run run, std::size_t robots, std::uint32_t each) {
+    std::vector<double> took;
+    for (std::size_t sent = 0; sent < robots; sent += each) {
+        const double frame = now();
+        run.send(each);
+        run.tick();
+        took.push_back(now() - frame);
+    }
+    std::printf("%u first orders a frame: %zu frames, mean %.1f ms, most %.1f ms\n", each, took.size(), mean(took) / 1e3, *std::max_element(took.begin(), took.end()) / 1e3);
+}
+
+static void row(std::uint32_t side, std::uint32_t blocked, std::uint32_t robots, std::uint32_t each) {
+    std::mt19937 draw(1);
+    const std::string text = square(side, blocked, draw);
+    std::vector<std::uint32_t> cells = largest(ns::Map(text));
+    const double before = megabytes();
+    auto [run, opening] = opened(text, std::move(cells), robots, draw);
+    const double alone = megabytes() - before;
+    if (each > 0) return spread(std::move(run), robots, each);
+    run.send(robots);
     const double first = run.tick();
     run.order = 0;
     run.orders = 0;
     std::vector<double> took;
     for (int tick = 0; tick < 500; tick++) {
-        run.send();
+        run.send(robots);
         took.push_back(run.tick());
     }
-    double sum = 0;
-    for (double one : took) sum += one;
     std::sort(took.begin(), took.end());
-    std::printf("| %u x %u, %u%% | %u | %.1f ms | %.1f ms | %.0f us | %.0f us | %.0f us | %.1f MB | %.1f MB |\n", side, side, blocked, robots, opened / 1e3, first / 1e3,
-                sum / static_cast<double>(took.size()), took[took.size() * 99 / 100], run.orders ? run.order / static_cast<double>(run.orders) : 0, alone, megabytes() - before);
+    std::printf("| %u x %u, %u%% | %u | %.1f ms | %.1f ms | %.0f us | %.0f us | %.0f us | %.1f MB | %.1f MB |\n", side, side, blocked, robots, opening / 1e3, first / 1e3,
+                mean(took), took[took.size() * 99 / 100], run.orders ? run.order / static_cast<double>(run.orders) : 0, alone, megabytes() - before);
     std::fflush(stdout);
 }
 
 int main(int count, char **words) {
     const auto number = [&](int at) { return count > at ? static_cast<std::uint32_t>(std::strtoul(words[at], nullptr, 10)) : 0; };
-    std::printf("| Map, blocked | Robots | Opening | First tick | Tick, mean | Tick, 99%% | `go` | New | After |\n|---|---|---|---|---|---|---|---|---|\n");
+    if (number(3) == 0) std::printf("| Map, blocked | Robots | Opening | First tick | Tick, mean | Tick, 99%% | `go` | New | After |\n|---|---|---|---|---|---|---|---|---|\n");
     for (std::uint32_t side : {64u, 128u, 512u, 1024u}) {
         for (std::uint32_t robots : {50u, 300u, 512u}) {
-            if ((number(1) == 0 || number(1) == side) && (number(2) == 0 || number(2) == robots)) row(side, side == 64 ? 0 : side == 128 ? 15 : 20, robots);
+            if ((number(1) == 0 || number(1) == side) && (number(2) == 0 || number(2) == robots)) row(side, side == 64 ? 0 : side == 128 ? 15 : 20, robots, number(3));
         }
     }
 }

@@ -424,6 +424,8 @@ private:
     const nashirudder_fleet *full = nullptr; // the fleet whose present chapter this is
 };
 
+class Map;
+
 /* How a fleet stands at the beginning of a chapter, as a value (Fleet::opening). It may be kept, changed, and gone on from: on
    another map, with robots that were moved, added or removed, without an errand. Each robot has a floor cell of its own then,
    from which a walk leads to the cells of its errands. */
@@ -470,6 +472,12 @@ struct Opening {
     [[nodiscard]] static Opening of(std::string_view trace) { return detail::value_of(try_of(trace)); }
     /* The text of a chapter that begins so, and has no entries: for Fleet::reopen. */
     [[nodiscard]] std::string trace() const;
+    /* What is wrong with the first such robot on this map, in a sentence; nothing if each stands on a floor cell of its own from
+       which a walk leads to each of its errands. */
+    [[nodiscard]] std::optional<std::string> fault_on(const Map &map) const;
+
+    friend bool operator==(const Opening &one, const Opening &other) { return one.trace() == other.trace(); }
+    friend bool operator!=(const Opening &one, const Opening &other) { return !(one == other); }
 };
 
 namespace detail {
@@ -628,13 +636,14 @@ public:
     Fleet &operator=(const Fleet &) = delete;
     Fleet(Fleet &&other) noexcept
         : handle(std::exchange(other.handle, nashirudder_fleet NASHIRUDDER_CLOSED)), count(std::exchange(other.count, 0)), number(other.number),
-          rolls(other.rolls), keeper(std::move(other.keeper)) {}
+          manner(other.manner), rolls(other.rolls), keeper(std::move(other.keeper)) {}
     Fleet &operator=(Fleet &&other) noexcept {
         if (this != &other) {
             nashirudder_close(&handle);
             handle = std::exchange(other.handle, nashirudder_fleet NASHIRUDDER_CLOSED);
             count = std::exchange(other.count, 0);
             number = other.number;
+            manner = other.manner;
             rolls = other.rolls;
             keeper = std::move(other.keeper);
         }
@@ -744,7 +753,10 @@ public:
         return account;
     }
     /* Lets the robots take turns from now on, so that errands into dead ends arrive: before the first entry of a chapter. */
-    void take_turns() { detail::check(nashirudder_take_turns(&handle)); }
+    void take_turns() {
+        detail::check(nashirudder_take_turns(&handle));
+        manner.turns = true;
+    }
     void widen(std::uint32_t client, std::uint64_t extra) { detail::check(nashirudder_widen(&handle, client, extra)); }
     /* Where the robots stand, by number, into a list that has one place for each. */
     void placement(Span<std::uint32_t> cells) const { detail::check(nashirudder_placement(&handle, detail::address(cells), cells.size())); }
@@ -820,6 +832,22 @@ public:
     }
     /* How the fleet stood at the beginning of the present chapter; after next_chapter or hand_out, how it stands now. */
     [[nodiscard]] Opening opening() const { return Opening::of(trace()); }
+    /* Goes on from this state, on this map: what was changed in it is so then, and a state of before is gone back to. Limits, keeper
+       of chapters, kept distances, roomy cells and turns are this fleet's, but `queue` and `life` the state's. Mailboxes are empty, so
+       give all notices first. The ranks are those of `robots`, or zero where that is empty. Refused as `reopen`, and by Code::no_turns;
+       then the fleet is as it was. */
+    void go_on(std::string_view map, const Opening &state, Span<const Robot> robots = {}) { detail::value_of(try_go_on(map, state, robots)); }
+    [[nodiscard]] Expected<void> try_go_on(std::string_view map, const Opening &state, Span<const Robot> robots = {}) {
+        forbid_keeper();
+        const std::vector<Robot> unranked(robots.empty() ? state.robots.size() : 0);
+        Fleet next;
+        const Fault fault = next.go_on_from(*this, map, state, robots.empty() ? Span<const Robot>(unranked) : robots);
+        if (fault.code != NASHIRUDDER_DONE) return detail::Unexpected(fault);
+        std::swap(handle, next.handle);
+        std::swap(count, next.count);
+        number = next.number;
+        return {};
+    }
     void next_chapter() { detail::value_of(try_next_chapter()); }
     [[nodiscard]] Expected<void> try_next_chapter() {
         forbid_keeper();
@@ -860,7 +888,10 @@ public:
         }
         rolls = true;
     }
-    void keep(std::size_t bytes) { detail::check(nashirudder_keep(&handle, bytes)); }
+    void keep(std::size_t bytes) {
+        detail::check(nashirudder_keep(&handle, bytes));
+        manner.kept = bytes;
+    }
     /* How many robots there are. */
     [[nodiscard]] std::size_t robots() const { return count; }
     [[nodiscard]] std::size_t clients() const {
@@ -893,6 +924,7 @@ private:
         Fault fault{};
         nashirudder_code code = call(detail::address(map), map.size(), robots.data(), robots.size(), &setup, &handle, &fault);
         if (code == NASHIRUDDER_DONE) count = robots.size();
+        manner = {setup, call == nashirudder_open_roomy, false, std::nullopt};
         return detail::fault_of(code, fault);
     }
     Fault reopen_by(decltype(&nashirudder_reopen) call, std::string_view map, std::string_view text, Span<const Robot> robots, const Setup &setup) {
@@ -900,10 +932,25 @@ private:
         nashirudder_code code = call(detail::address(map), map.size(), detail::address(text), text.size(), robots.data(), robots.size(), &setup, &handle, &fault);
         if (code != NASHIRUDDER_DONE) return detail::fault_of(code, fault);
         count = robots.size();
+        manner = {setup, call == nashirudder_reopen_roomy, false, std::nullopt};
         auto told = try_trace();
         if (!told) return told.error();
         number = number_in(*told);
         return {};
+    }
+    /* Opens a closed fleet that goes on from a state in the manner of another. */
+    Fault go_on_from(const Fleet &other, std::string_view map, const Opening &state, Span<const Robot> robots) {
+        Setup setup{};
+        nashirudder_code code = nashirudder_limits(&other.handle, &setup);
+        if (code != NASHIRUDDER_DONE) return {0, 0, code};
+        setup = other.manner.setup;
+        setup.queue = state.queue > UINT32_MAX ? UINT32_MAX : static_cast<std::uint32_t>(state.queue);
+        setup.life = state.life;
+        const Fault fault = reopen_by(other.manner.roomy ? nashirudder_reopen_roomy : nashirudder_reopen, map, state.trace(), robots, setup);
+        if (fault.code != NASHIRUDDER_DONE) return fault;
+        if (other.manner.turns) code = nashirudder_take_turns(&handle);
+        if (code == NASHIRUDDER_DONE && other.manner.kept) code = nashirudder_keep(&handle, *other.manner.kept);
+        return {0, 0, code};
     }
     static Expected<Fleet> tried(decltype(&nashirudder_open) call, std::string_view map, Span<const Robot> robots, const Setup &setup) {
         Fleet fleet;
@@ -971,9 +1018,17 @@ private:
         return list;
     }
 
+    /* How it was opened, and is to go on. */
+    struct Manner {
+        Setup setup{};
+        bool roomy = false, turns = false;
+        std::optional<std::size_t> kept{};
+    };
+
     nashirudder_fleet handle = NASHIRUDDER_CLOSED;
     std::size_t count = 0;
     std::uint64_t number = 0; // of the present chapter
+    Manner manner;
     bool rolls = false, is_keeping = false;
     std::shared_ptr<std::function<bool(const Chapter &)>> keeper;
 };
@@ -1052,14 +1107,15 @@ public:
         detail::check(nashirudder_map_shape(&handle, &shape));
         return shape;
     }
-    /* The cells that are floor, in their order. */
+    /* The cells that are floor, in their order, into a list that has a place for each; how many these are. */
+    std::size_t floor(Span<std::uint32_t> cells) const {
+        std::size_t told = 0;
+        detail::check(nashirudder_map_floor(&handle, cells.data(), cells.size(), &told));
+        return told;
+    }
     [[nodiscard]] std::vector<std::uint32_t> floor() const {
-        const Shape whole = shape();
-        std::vector<std::uint32_t> cells;
-        cells.reserve(whole.floor);
-        for (std::uint32_t cell = 0; cell < whole.cells; cell++) {
-            if (joins(cell, cell)) cells.push_back(cell);
-        }
+        std::vector<std::uint32_t> cells(shape().floor);
+        floor(cells);
         return cells;
     }
     /* Whether both cells are floor, and a walk joins them. */
@@ -1120,6 +1176,23 @@ private:
 
     nashirudder_map handle = NASHIRUDDER_CLOSED;
 };
+
+inline std::optional<std::string> Opening::fault_on(const Map &map) const {
+    using std::to_string;
+    for (std::size_t robot = 0; robot < robots.size(); robot++) {
+        const Robot &of = robots[robot];
+        if (!map.joins(of.cell, of.cell)) return "robot " + to_string(robot) + " is on cell " + to_string(of.cell) + ", which is no floor";
+        for (std::size_t other = 0; other < robot; other++) {
+            if (robots[other].cell == of.cell) return "robots " + to_string(other) + " and " + to_string(robot) + " are both on cell " + to_string(of.cell);
+        }
+        for (const Errand &errand : of.errands) {
+            if (map.joins(of.cell, errand.cell)) continue;
+            return "no walk leads robot " + to_string(robot) + " from cell " + to_string(of.cell) + " to cell " + to_string(errand.cell) +
+                   ", where its errand " + to_string(errand.number) + " of client " + to_string(errand.client) + " goes";
+        }
+    }
+    return std::nullopt;
+}
 
 /* A shield for any policy: one step of any number of robots without conflicts, from what each robot prefers. */
 class Shield {

@@ -801,6 +801,11 @@ static void roomy() {
     const Map stub(STUB);
     // For as many robots as these, and for 1, 2, 3 and 4: a side of k cells is too small for k + 1 robots.
     const Cells none_of_four[4] = {{}, {11}, {10, 11}, {9, 10, 11}};
+    CHECK(stub.floor() == floor && Map("type octile\nheight 1\nwidth 2\nmap\n@@\n").floor().empty());
+    Cells places(13, 99);
+    CHECK(stub.floor(places) == 12 && places[11] == 14 && places[12] == 99);
+    Cells few(11, 99);
+    CHECK(is(refusal_of([&] { stub.floor(few); }), NASHIRUDDER_WRONG_LENGTH) && few == Cells(11, 99));
     CHECK(stub.served_for() == 9 && Map(RING).served_for() == 11);
     CHECK(stub.unroomy(0).empty() && stub.unroomy(9) == none_of_four[3] && stub.unroomy(10) == floor && Map(RING).unroomy(512).empty());
     for (std::uint32_t robots = 1; robots <= 4; robots++) {
@@ -855,12 +860,20 @@ static void roomy() {
     std::size_t count = 7;
     CHECK(nashirudder_map_unroomy(&map, 2, cells, 4, &count) == NASHIRUDDER_NOT_OPEN && count == 7);
     CHECK(nashirudder_map_served_for(&map, cells) == NASHIRUDDER_NOT_OPEN && cells[0] == 9);
+    CHECK(nashirudder_map_floor(&map, cells, 4, &count) == NASHIRUDDER_NOT_OPEN && count == 7 && cells[0] == 9);
     CHECK(nashirudder_map_open((const std::uint8_t *)STUB, std::strlen(STUB), &map, nullptr) == NASHIRUDDER_DONE);
     CHECK(nashirudder_map_unroomy(&map, 4, cells, 2, &count) == NASHIRUDDER_WRONG_LENGTH && count == 3 && cells[0] == 9);
     CHECK(nashirudder_map_unroomy(&map, 3, cells, 4, &count) == NASHIRUDDER_DONE && count == 2 && cells[0] == 10 && cells[1] == 11 && cells[2] == 9);
     CHECK(nashirudder_map_unroomy(&map, 3, nullptr, 0, &count) == NASHIRUDDER_WRONG_LENGTH && count == 2);
     CHECK(nashirudder_map_unroomy(&map, 3, nullptr, 4, &count) == NASHIRUDDER_NULL_POINTER && nashirudder_map_unroomy(nullptr, 3, cells, 4, &count) == NASHIRUDDER_NULL_POINTER);
     CHECK(nashirudder_map_unroomy(&map, 3, cells, 4, nullptr) == NASHIRUDDER_NULL_POINTER);
+    std::uint32_t all[14];
+    std::fill(std::begin(all), std::end(all), 9u);
+    CHECK(nashirudder_map_floor(&map, all, 11, &count) == NASHIRUDDER_WRONG_LENGTH && count == 12 && all[0] == 9);
+    CHECK(nashirudder_map_floor(&map, nullptr, 0, &count) == NASHIRUDDER_WRONG_LENGTH && count == 12);
+    CHECK(nashirudder_map_floor(&map, all, 14, &count) == NASHIRUDDER_DONE && count == 12 && all[2] == 2 && all[3] == 6 && all[11] == 14 && all[12] == 9 && all[13] == 9);
+    CHECK(nashirudder_map_floor(&map, nullptr, 4, &count) == NASHIRUDDER_NULL_POINTER && nashirudder_map_floor(nullptr, all, 14, &count) == NASHIRUDDER_NULL_POINTER);
+    CHECK(nashirudder_map_floor(&map, all, 14, nullptr) == NASHIRUDDER_NULL_POINTER);
     std::uint32_t served = 7;
     CHECK(nashirudder_map_served_for(nullptr, &served) == NASHIRUDDER_NULL_POINTER && nashirudder_map_served_for(&map, nullptr) == NASHIRUDDER_NULL_POINTER && served == 7);
     CHECK(nashirudder_map_served_for(&map, &served) == NASHIRUDDER_DONE && served == 9);

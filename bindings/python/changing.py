@@ -17,12 +17,11 @@ state.cancel(1)                                     # also the errand that a rob
 state.move(1, 8)
 state.robots.append(OpeningRobot(cell=6))             # which is floor in the yard, and a wall on the new map
 try:
-    Handle.reopen(WALL, state.trace())
+    fleet.go_on(WALL, state)
 except Refused as refused:
-    print(refused)
+    print(refused)                                    # the fleet is as it was
 state.robots[2].cell = 9
-fleet.close()
-fleet = Handle.reopen(WALL, state.trace())          # numbers of orders, errands and ticks go on
+fleet.go_on(WALL, state)                              # numbers of orders, errands and ticks go on
 while not fleet.is_idle():
     fleet.tick()
 print(f"tick {fleet.clock()}: robots on", *map(int, fleet.placement()))

@@ -108,6 +108,35 @@ def standings(texts):
     return all_of, clocks
 
 
+def conflicts_in(rows, before, after):
+    """How many conflicts a step has: robots on no floor or on a cell of another one, too far away, and pairs that exchange their cells."""
+    width = len(rows[0])
+    if len(before) != len(after):
+        return 1
+    count = 0
+    for robot, cell in enumerate(after):
+        count += rows[cell // width][cell % width] not in '.GS' or cell in after[:robot]
+        old = before[robot]
+        count += abs(cell // width - old // width) + abs(cell % width - old % width) > 1
+        count += cell != old and any((now, then) == (old, cell) for now, then in zip(after[robot + 1:], before[robot + 1:]))
+    return count
+
+
+def conflicts(rows, verdicts, texts):
+    """The conflicts of the illegal chapters, by frame."""
+    counts = collections.Counter()
+    frame = 0
+    for verdict, text in zip(verdicts, texts):
+        trace = json.loads(text)
+        cells = [robot[0] for robot in trace['opening']['robots']]
+        for entry in trace['entries']:
+            if entry[0] == 'tick':
+                frame += 1
+                counts[frame] += 0 if verdict == 'legal' else conflicts_in(rows, cells, entry[1])
+                cells = entry[1]
+    return counts
+
+
 def is_bridgeless_and_far(rows):
     """Whether no edge of the floor is a bridge, each tried by leaving it out; and the greatest distance."""
     floor = {(y, x) for y, row in enumerate(rows) for x, letter in enumerate(row) if letter in '.GS'}

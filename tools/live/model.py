@@ -281,6 +281,35 @@ class Live:
             self.say(mark, f"since {client} end {count}")
         return True
 
+    def robots(self):
+        """The lines of `robots`."""
+        world, lines = self.world, []
+        for robot, (cell, queue, wait) in enumerate(zip(world.place, world.queues, world.waits)):
+            state = "shut" if world.is_shut[robot] else "busy" if queue else "free"
+            lines.append(f"robot {robot} cell {cell} goal {queue[0][2] if queue else cell} errands {len(queue)} wait {wait or 0} {state}")
+        return lines + [f"robots end {len(lines)}"]
+
+    def hello(self):
+        """The line of `hello`."""
+        world, limits = self.world, self.head.limits
+        return (f"hello version 0.1.0 robots {len(world.place)} clients {self.head.clients} width {self.grid.width} height {self.grid.height} "
+                f"chapter {world.number} tick {world.ticks} queue {limits['queue']} mailbox {limits['mailbox']} lane {limits['lane']}")
+
+    def post_as(self, mark, words):
+        """`as N post C ..`; whether it is that."""
+        number = int(words[1]) if len(words) > 2 and words[1].isdigit() else None
+        kind, what, _ = talk.kind_of(b" ".join(words[2:]))
+        if number is None or kind != "events" or what[0][0] != "post":
+            return False
+        _, client, order = what[0]
+        if not self.first <= client < self.head.clients:
+            self.say(mark, f"no-client {client}")
+        elif number != self.posts[client] + 1:
+            self.say(mark, f"post-refused {client} 4 next {self.posts[client] + 1}")
+        else:
+            self.post(mark, client, order)
+        return True
+
     def shut(self, mark, robot):
         replies = []
 
@@ -326,6 +355,13 @@ class Live:
             self.watch = what[1] == b"on"
             self.say(mark, "watch " + what[1].decode())
         elif kind == "header" and what[0] in (b"session", b"since") and self.again(mark, what):
+            pass
+        elif kind == "header" and what == [b"hello"]:
+            self.say(mark, self.hello())
+        elif kind == "header" and what == [b"robots"]:
+            for line in self.robots():
+                self.say(mark, line)
+        elif kind == "header" and what[0] == b"as" and self.post_as(mark, what):
             pass
         elif kind == "events" and what[0][0] == "tick" and self.period is None:
             self.tick(mark, len(what))

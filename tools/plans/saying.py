@@ -37,6 +37,42 @@ def fault_sentence(rows, places, words):
     return f"time {time}: robots {robot} and {robots[1]} exchange {came} and {comes}"
 
 
+def left_for_good(rows, places):
+    """Returns the placements of robots of which one that left the map does not come back, as where they are told by moves."""
+    outside = (-1, -1)
+    held = [places[0]]
+    for place in places[1:]:
+        gone = [not (0 <= y < len(rows) and 0 <= x < len(rows[0])) for x, y in held[-1]]
+        held.append([outside if robot < len(gone) and gone[robot] else cell for robot, cell in enumerate(place)])
+    return held
+
+
+def conflicts(rows, places):
+    """Returns the lines of all conflicts of placements, by time and robot; cells outside of the map are one cell."""
+    def known(cell):
+        return cell if 0 <= cell[1] < len(rows) and 0 <= cell[0] < len(rows[0]) else None
+
+    def is_floor(cell):
+        return cell is not None and rows[cell[1]][cell[0]] in ".GS"
+
+    lines = []
+    for time, place in enumerate(places):
+        after, before = [[known(cell) for cell in at] for at in (place, places[max(time - 1, 0)])]
+        if len(after) != len(before):
+            lines.append(f"{time} length")
+            continue
+        for robot, (old, cell) in enumerate(zip(before, after)):
+            if not is_floor(cell):
+                lines.append(f"{time} off-floor {robot}")
+            if old != cell and not (is_floor(old) and is_floor(cell) and abs(old[0] - cell[0]) + abs(old[1] - cell[1]) == 1):
+                lines.append(f"{time} not-adjacent {robot}")
+            if cell in after[:robot]:
+                lines.append(f"{time} vertex {after.index(cell)} {robot}")
+            if old != cell and old in after[:robot] and before[after.index(old)] == cell:
+                lines.append(f"{time} swap {after.index(old)} {robot}")
+    return "".join(f"invalid {line}\n" for line in lines)
+
+
 def complaint_sentence(form, is_plan, words):
     """Returns what is said where `fleet check` names these words after `fleet: plan`."""
     if words[-1] == "cut":

@@ -37,12 +37,12 @@ from .live import LiveFleet
 from .live_errand import LiveErrand
 from .orders import Errand
 from .pipes import Fleet
-from .records import Arrival, Chapter, Farewell, Look, OpenErrand, Session, Standing
+from .records import Arrival, Chapter, Farewell, Hello, Look, OpenErrand, Session, Standing
 
 __version__ = "0.1.0"
 
 __all__ = [
-    "AnyFleet", "Arrival", "Chapter", "Ended", "Errand", "Farewell", "FileFailed", "Fleet", "FleetError", "Late",
+    "AnyFleet", "Arrival", "Chapter", "Ended", "Errand", "Farewell", "FileFailed", "Fleet", "FleetError", "Hello", "Late",
     "LiveErrand", "LiveFleet", "Look", "Missing", "NoMemory", "OpenErrand", "OrderRefused", "OutOfRange", "Refused",
     "Session", "Standing", "Waiting",
 ]

@@ -4,7 +4,7 @@ from typing import List, Optional, Sequence
 
 from .errors import Ended, FileFailed, FleetError, NoMemory, refusal
 from .orders import Order
-from .records import Chapter, Look, OpenErrand, Session
+from .records import Chapter, Hello, Look, OpenErrand, Session, Standing
 
 
 class Asked:
@@ -47,6 +47,21 @@ def errands_in(lines: Sequence[Sequence[str]]) -> List[OpenErrand]:
         raise refusal("no-client")
     told = [[int(word) for word in words[1::2]] for words in lines if words[2] == "number"]
     return [OpenErrand(client, number, robot, cell, place) for client, number, robot, cell, place in told]
+
+
+def standings_in(lines: Sequence[Sequence[str]]) -> List[Standing]:
+    """What lines `robot ..` say."""
+    standings: List[Standing] = []
+    for words in lines[:-1]:
+        cell, goal, errands, wait = (int(word) for word in words[3:10:2])
+        standings.append(Standing(words[10], cell, goal if errands else None, errands, wait if errands else None))
+    return standings
+
+
+def hello_in(words: Sequence[str]) -> Hello:
+    """What a line `hello ..` says."""
+    said = dict(zip(words[3::2], (int(word) for word in words[4::2])))
+    return Hello(words[2], **said)
 
 
 def session_in(words: Sequence[str]) -> Session:

@@ -175,6 +175,7 @@ FUNCTIONS = {
     "map_close": (POINTER(CMap),),
     "map_shape": (POINTER(CMap), POINTER(CShape)),
     "map_joins": (POINTER(CMap), c_uint32, c_uint32, POINTER(c_bool)),
+    "map_floor": (POINTER(CMap), POINTER(c_uint32), c_size_t, POINTER(c_size_t)),
     "map_check_step": (POINTER(CMap), POINTER(c_uint32), c_size_t, POINTER(c_uint32), c_size_t, POINTER(CFault)),
     "map_first_bridge": (POINTER(CMap), POINTER(CEdge)),
     "map_distances": (POINTER(CMap), c_uint32, POINTER(c_uint32), c_size_t),

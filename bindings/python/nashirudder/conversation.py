@@ -134,7 +134,7 @@ class Conversation:
         asked.answers[0].append(words)
         if words[0] == "collected":
             self._hear_notice(words)
-        if words[0] in ("open", "collected") and words[2] != "end":
+        if words[0] in ("open", "collected") and words[2] != "end" or words[0] == "robot":
             # Further lines of this answer follow.
             return
         del self._pending[mark]

@@ -12,7 +12,8 @@ class Posted(NamedTuple):
 
 
 class NotPosted(NamedTuple):
-    """An order was not posted, and has no number: `name` is "lane-full", "closed", "numbers-spent" or "no-client"."""
+    """An order was not posted, and has no number: `name` is "lane-full", "closed", "numbers-spent" or "no-client", or "next" if it was to have a
+    number that is not its client's next one."""
 
     client: int
     name: str

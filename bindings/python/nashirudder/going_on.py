@@ -8,8 +8,9 @@ from . import opening
 from .errors import FileFailed, Refused
 from .finding import Place
 from .folder import KeptChapter
-from .handle import Handle, told_by
+from .handle import Handle
 from .map_handle import Map
+from .state import told_by
 
 # Why no fleet goes on from a chapter, in the words of nashirudder.h. The others are faults of the map and the limits.
 _REASONS = {

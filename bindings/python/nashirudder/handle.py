@@ -1,12 +1,12 @@
 """A fleet in this process, by the calls of nashirudder.h one by one."""
 
+import contextlib
 import ctypes
-import json
 import threading
 from ctypes import byref
 from typing import TYPE_CHECKING, Any, Dict, List, Optional, Sequence, Tuple, Type, TypeVar, Union
 
-from .arrays import as_cells, room_in
+from .arrays import new_cells, room_in, without_array
 from .batches import Batches
 from .calls import CArrival, CFault, CFleet, CJudgement, CNote, CReport, CRobot, CSetup, check, load
 from .ended import EndedChapter
@@ -17,7 +17,7 @@ from .names import Code
 from .opening import MapText, Text, map_text, text_of
 from .ranges import checked_limits, limits_in, long_number, whole_number
 from .records import Arrival
-from .state import Opening
+from .state import Opening, told_by
 from .told import Judgement, Notice, Report, TickRecord, judgement_of, notice_of
 from .uncopied import Uncopied
 from .views import Views
@@ -32,19 +32,6 @@ def _start(robot: Start) -> CRobot:
         raise OutOfRange(f"a robot has four ranks, and not {len(ranks)}")
     checked = (whole_number("a rank", rank, most=255) for rank in ranks)
     return CRobot(whole_number("a start cell", cell), (ctypes.c_uint8 * 4)(*checked))
-
-
-def told_by(text: bytes) -> Dict[str, int]:
-    """What the text of a chapter tells: its number, the limits that it has, and how many robots there are; nothing, if
-    it is no such text, of which the library says more.
-    """
-    try:
-        told = json.loads(text)
-        opening = told["opening"]
-        found = {"chapter": told["chapter"], "queue": opening["queue"], "life": opening["life"], "robots": len(opening["robots"])}
-    except (ValueError, LookupError, TypeError, RecursionError):
-        return {}
-    return found if all(type(number) is int and 0 <= number <= 2**40 for number in found.values()) else {}
 
 
 if TYPE_CHECKING:
@@ -91,6 +78,10 @@ class Handle(Uncopied, Views, Batches):
         self._lock = threading.Lock()
         self._fleet = CFleet()
         self._count = len(robots)
+        # How it was opened, and is to go on
+        self._manner: Dict[str, Any] = {"roomy": name.endswith("_roomy"), "built": built, **limits}
+        self._turns = False
+        self._kept: Optional[int] = None
         setup, fault = CSetup(), CFault()
         self._library.nashirudder_setup_default(whole_number("clients", clients), byref(setup))
         for limit, number in checked_limits(limits).items():
@@ -195,13 +186,14 @@ class Handle(Uncopied, Views, Batches):
         `out` is as in `placement`: the cells are written there, and `cells` of what is returned is `out`.
         """
         did, count = CReport(), self._count
-        cells = (ctypes.c_uint32 * count)() if out is None else room_in(out, ctypes.c_uint32, count)
+        told = new_cells(count) if out is None else out
+        cells = room_in(told, ctypes.c_uint32, count)
         gone, came = (ctypes.c_uint32 * count)(), (CArrival * count)()
         check(self._call("tick_into", byref(did), cells, count, came, count, gone, count))
         arrivals = [
             Arrival(one.robot, one.client, one.number, one.cell, did.tick, one.stamp) for one in came[: did.arrived]
         ]
-        return TickRecord(did.tick, as_cells(cells) if out is None else out, arrivals, gone[: did.farewells])
+        return TickRecord(did.tick, without_array(told) if out is None else out, arrivals, gone[: did.farewells])
 
     def shut(self, robot: int) -> bool:
         """The robot gets no more errands. Returns True if it has none, and so took its leave at once.
@@ -243,6 +235,7 @@ class Handle(Uncopied, Views, Batches):
         were found do not pass their checks.
         """
         check(self._call("take_turns"))
+        self._turns = True
 
     def widen(self, extra: int, client: int = 0) -> None:
         """Lets the client's mailbox hold `extra` more notices and unfinished errands, and takes the memory for them at
@@ -263,9 +256,27 @@ class Handle(Uncopied, Views, Batches):
 
     def opening(self) -> Opening:
         """How the fleet stood at the beginning of the present chapter; after `next_chapter` or `hand_out`, how it stands
-        now. It may be kept, changed, and passed to `reopen` by its `trace`.
+        now. It may be kept, changed, and passed to `go_on`, or to `reopen` by its `trace`.
         """
         return Opening.of(self.trace())
+
+    def go_on(self, map: MapText, state: Opening, ranks: Optional[Sequence[Sequence[int]]] = None) -> None:
+        """Goes on from this state, on this map: what was changed in it is so then, and a state of before is gone back to.
+
+        Limits, kept distances, roomy cells and turns are this fleet's, but `queue` and `life` the state's. Mailboxes are
+        empty, so give all notices first. `ranks` is as in `reopen`. Raises as `reopen`, and Refused with "no-turns"; then
+        the fleet is as it was.
+        """
+        self.clock()    # raises where it is closed
+        manner: Dict[str, Any] = {**self._manner, "queue": state.queue, "life": state.life}
+        other = Handle.reopen(map, state.trace(), ranks, **manner)
+        with contextlib.closing(other):
+            if self._turns:
+                other.take_turns()
+            if self._kept is not None:
+                other.keep(self._kept)
+            with self._lock:
+                self._fleet, other._fleet, self._count = other._fleet, self._fleet, other._count
 
     def hand_out(self) -> EndedChapter:
         """Begins the next chapter, and returns the one that ended. Raises Refused with "book-spent"."""
@@ -278,3 +289,4 @@ class Handle(Uncopied, Views, Batches):
         2^64 - 1).
         """
         check(self._call("keep", long_number("size", size)))
+        self._kept = size

@@ -4,28 +4,23 @@ import contextlib
 import os
 import threading
 import weakref
-from typing import TYPE_CHECKING, List, Optional, Sequence
+from typing import List, Optional, Sequence
 
 from . import finding, opening
-from .answers import chapter_in, errands_in, look_in
-from .arrays import as_cells
 from .caller import Caller, OnTick
-from .closing import Closing
 from .conversation import Conversation
 from .errors import Ended, FleetError, OutOfRange, Refused, Waiting, refusal
 from .finding import Place
 from .fleet import MOST_TICKS, TICKS_AT_ONCE
+from .live_answers import LiveAnswers
 from .live_errand import LiveErrand
 from .names import Verdict
 from .opening import Planner, Text, Ties
 from .orders import Order, need_own
 from .process import Program, silently
 from .ranges import whole_number
-from .records import Arrival, Chapter, Farewell, Look, OpenErrand
+from .records import Arrival, Farewell
 from .turns import need_own_process
-
-if TYPE_CHECKING:
-    from .arrays import Cells
 
 def _farewell_in(words: List[str]) -> Optional[Farewell]:
     """What the answer to a shut says."""
@@ -46,7 +41,7 @@ def _is_over(fleet: "Optional[LiveFleet]") -> bool:
     return fleet is None or fleet._program.is_closed
 
 
-class LiveFleet(Closing):
+class LiveFleet(LiveAnswers):
     """A fleet that moves by itself, a turn every `period_ms` milliseconds; without it, a turn for each `tick`. `fleet
     live` keeps it.
 
@@ -231,33 +226,6 @@ class LiveFleet(Closing):
         no list of them: ask its errands.
         """
         return list(self._said.arrivals)
-
-    def look(self) -> Look:
-        """How the fleet stands. It changes nothing."""
-        return self._program.reply("look", look_in)
-
-    def open_errands(self, client: int = 0) -> List[OpenErrand]:
-        """The client's errands that are accepted, and neither done nor withdrawn, once what was posted is judged as far
-        as there is room: by robot, and then by place in its queue. Raises Refused with "no-client".
-        """
-        return errands_in(self._program.ask(f"open {whole_number('client', client)}")[0])
-
-    @property
-    def cells(self) -> List[int]:
-        """Where the robots stand, by the robot's number: a list."""
-        return self.look().cells
-
-    def placement(self) -> "Cells":
-        """What `cells` has, as an array of `numpy.uint32` with one item for each robot; as a list if NumPy is not
-        there.
-        """
-        return as_cells(self.cells)
-
-    def chapter(self) -> Chapter:
-        """Ends the present chapter, which is written if `traces` was given, and begins the next. Raises Refused with
-        "book-spent" if it is the last.
-        """
-        return self._program.reply("chapter", chapter_in)
 
     # ---- the end
 

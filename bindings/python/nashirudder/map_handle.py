@@ -5,7 +5,7 @@ import threading
 from ctypes import byref
 from typing import TYPE_CHECKING, Any, Optional, Tuple, TypeVar
 
-from .arrays import as_cells, c_cells
+from .arrays import c_cells, new_cells, room_in, without_array
 from .calls import CEdge, CFault, CMap, CShape, check, load
 from .finding import Place
 from .names import Code
@@ -62,14 +62,10 @@ class Map(Uncopied):
             self.close()
 
     def floor_cells(self) -> "Cells":
-        """The cells that are floor, in their order: `floor` of them."""
-        with self._lock:
-            joins, told = self._library.nashirudder_map_joins, ctypes.c_bool()
-            found = byref(told)
-            cells = [cell for cell in range(self.cells) if joins(byref(self._map), cell, cell, found) == 0 and told.value]
-        if not cells:
-            self.joins(0, 0)  # raises where the map is closed
-        return as_cells(cells)
+        """The cells that are floor, in their order: `floor` of them. The library writes them into the array, without a copy."""
+        told, count = new_cells(self.floor), ctypes.c_size_t()
+        check(self._call("map_floor", room_in(told, ctypes.c_uint32, self.floor), self.floor, byref(count)))
+        return without_array(told)
 
     def joins(self, one: int, other: int) -> bool:
         """Whether both cells are floor, and a walk joins them. Cells are any numbers from 0 to 2^32 - 1."""
@@ -94,9 +90,9 @@ class Map(Uncopied):
 
     def distances(self, goal: int) -> "Cells":
         """As the function `distances`: `cells` numbers. Raises Refused with "goal-blocked"."""
-        told = (ctypes.c_uint32 * self.cells)()
-        check(self._call("map_distances", whole_number("goal", goal), told, self.cells))
-        return as_cells(told)
+        told = new_cells(self.cells)
+        check(self._call("map_distances", whole_number("goal", goal), room_in(told, ctypes.c_uint32, self.cells), self.cells))
+        return without_array(told)
 
     def unroomy(self, robots: int) -> "Cells":
         """The floor cells that are not roomy for this many robots, in their order: errands there may block a fleet of
@@ -106,9 +102,9 @@ class Map(Uncopied):
         code = self._call("map_unroomy", number, (ctypes.c_uint32 * 1)(), 0, byref(count))
         if code != Code.WRONG_LENGTH:
             check(code)
-        told = (ctypes.c_uint32 * count.value)()
-        check(self._call("map_unroomy", number, told, count.value, byref(count)))
-        return as_cells(told)
+        told = new_cells(count.value)
+        check(self._call("map_unroomy", number, room_in(told, ctypes.c_uint32, count.value), count.value, byref(count)))
+        return without_array(told)
 
     def served_for(self) -> int:
         """The greatest number of robots for which errands to all floor cells arrive, if they take turns

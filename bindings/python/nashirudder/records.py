@@ -74,6 +74,24 @@ class Standing:
 
 
 @dataclass(frozen=True)
+class Hello:
+    """What a fleet in real time is: its program's `version`, how many `robots` and `clients` it has, the map's sides, how far it is (`chapter` and
+    `tick` are as in `Look`), and the limits `queue`, `mailbox` and `lane`.
+    """
+
+    version: str
+    robots: int
+    clients: int
+    width: int
+    height: int
+    chapter: int
+    tick: int
+    queue: int
+    mailbox: int
+    lane: int
+
+
+@dataclass(frozen=True)
 class Look:
     """How the fleet stands.
 

@@ -50,8 +50,8 @@ class Opening:
     """How a fleet stands at the beginning of a chapter (docs/TRACE.md, "The keys").
 
     `of` reads one from the text of a chapter, and `trace` writes the text of a chapter without entries, from which
-    `Handle.reopen` goes on. Robots may be moved, added and removed in between: each has a floor cell of its own, and a
-    walk leads from it to the cells of its errands.
+    `Handle.reopen` goes on, as `Handle.go_on` does from the state itself. Robots may be moved, added and removed in
+    between: each has a floor cell of its own, and a walk leads from it to the cells of its errands.
     """
 
     chapter: int
@@ -121,3 +121,16 @@ class Opening:
                 if not map.joins(of.cell, errand.cell):
                     return f"no walk leads robot {robot} from cell {of.cell} to cell {errand.cell}, where its errand {errand.number} of client {errand.client} goes"
         return None
+
+
+def told_by(text: bytes) -> Dict[str, int]:
+    """What the text of a chapter tells: its number, the limits that it has, and how many robots there are; nothing, if
+    it is no such text, of which the library says more.
+    """
+    try:
+        told = json.loads(text)
+        opening = told["opening"]
+        found = {"chapter": told["chapter"], "queue": opening["queue"], "life": opening["life"], "robots": len(opening["robots"])}
+    except (ValueError, LookupError, TypeError, RecursionError):
+        return {}
+    return found if all(type(number) is int and 0 <= number <= 2**40 for number in found.values()) else {}

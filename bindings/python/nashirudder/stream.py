@@ -15,9 +15,9 @@ from .errors import Ended, FleetError, Missing, OutOfRange, Refused, refusal
 from .events import Arrived, Event, Judged, Over, notice_in
 from .finding import Place
 from .opening import Planner, Text, Ties
-from .answers import end_of, errands_in, look_in, session_in
+from .answers import end_of, errands_in, hello_in, look_in, session_in, standings_in
 from .ranges import long_number, whole_number
-from .records import Look, OpenErrand, Session
+from .records import Hello, Look, OpenErrand, Session, Standing
 from .stream_book import Asked, Lines, StreamBook
 from .stream_pipes import StreamPipes, WholeLines
 
@@ -128,16 +128,21 @@ class FleetStream:
         if not self._is_over:
             self._stdin.write(lines)
 
-    def go(self, robot: int, cell: int, client: int = 0, note: Any = None) -> None:
-        """Posts an errand. Its events have `note`: Posted or NotPosted, then Judged, then Arrived. Raises OutOfRange,
-        and Ended once the program has ended."""
-        robot, cell, client = whole_number("robot", robot), whole_number("cell", cell), whole_number("client", client)
-        self._send(f"post {client} go {robot} {cell}", Asked(None, client, note, []))
+    def _post(self, order: str, number: Optional[int], asked: Asked) -> None:
+        only = "" if number is None else f"as {long_number('number', number)} "
+        self._send(f"{only}post {asked.client} {order}", asked)
 
-    def withdraw(self, errand: int, client: int = 0, note: Any = None) -> None:
-        """Posts the withdrawal of the client's errand of this number. Raises as `go` does."""
+    def go(self, robot: int, cell: int, client: int = 0, note: Any = None, number: Optional[int] = None) -> None:
+        """Posts an errand. Its events have `note`: Posted or NotPosted, then Judged, then Arrived. With `number` it is posted
+        only if it is the client's order of this number, so what may have been heard can be posted again. Raises
+        OutOfRange, and Ended once the program has ended."""
+        robot, cell, client = whole_number("robot", robot), whole_number("cell", cell), whole_number("client", client)
+        self._post(f"go {robot} {cell}", number, Asked(None, client, note, []))
+
+    def withdraw(self, errand: int, client: int = 0, note: Any = None, number: Optional[int] = None) -> None:
+        """Posts the withdrawal of the client's errand of this number. `number` is as in `go`, and it raises as that does."""
         errand, client = whole_number("errand", errand), whole_number("client", client)
-        self._send(f"post {client} withdraw {errand}", Asked(None, client, note, [], errand))
+        self._post(f"withdraw {errand}", number, Asked(None, client, note, [], errand))
 
     def ask(self, line: str) -> "asyncio.Future[Lines]":
         """A future of a line's answer: its lines, as words. It fails with Ended if the program ends before. The line
@@ -149,6 +154,14 @@ class FleetStream:
     async def look(self) -> Look:
         """How the fleet stands."""
         return look_in((await self.ask("look"))[0])
+
+    async def hello(self) -> Hello:
+        """What the fleet is."""
+        return hello_in((await self.ask("hello"))[0])
+
+    async def standings(self) -> List[Standing]:
+        """How each robot stands, by the robot's number."""
+        return standings_in(await self.ask("robots"))
 
     async def open_errands(self, client: int = 0) -> List[OpenErrand]:
         """The client's errands that are accepted, and neither done nor withdrawn. Raises Refused with "no-client"."""

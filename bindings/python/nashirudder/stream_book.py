@@ -67,11 +67,11 @@ class StreamBook:
                 self._orders[asked.client, number] = asked
                 self.events.append(Posted(asked.client, number, asked.note))
             else:
-                name = words[-1] if words[1] == b"post-refused" else words[1]
+                name = words[4] if words[1] == b"post-refused" else words[1]
                 self.events.append(NotPosted(asked.client, name.decode(), asked.note))
             return
         asked.lines.append([word.decode() for word in words[1:]])
-        if words[1] == b"collected" or words[1] == b"open" and words[3] != b"end":
+        if words[1] in (b"collected", b"robot") or words[1] == b"open" and words[3] != b"end":
             return                              # further lines of this answer follow
         del self.asked[words[0]]
         if asked.answer.done():

@@ -5,7 +5,7 @@ import threading
 from ctypes import byref
 from typing import TYPE_CHECKING, Any, Dict, List, Optional, TypeVar, overload
 
-from .arrays import as_cells, room_in
+from .arrays import new_cells, room_in, without_array
 from .calls import CAccount, CErrand, CFleet, CNote, CSetup, CStanding, check
 from .names import Code
 from .ranges import LIMITS, whole_number
@@ -62,9 +62,9 @@ class Views:
         With `out`, an array of your own of unsigned numbers of 32 bits with one place for each robot (of NumPy, or
         `array.array("I", ..)`), the cells are written there, without a copy, and it is returned.
         """
-        cells = (ctypes.c_uint32 * self._count)() if out is None else room_in(out, ctypes.c_uint32, self._count)
-        check(self._call("placement", cells, self._count))
-        return as_cells(cells) if out is None else out
+        told = new_cells(self._count) if out is None else out
+        check(self._call("placement", room_in(told, ctypes.c_uint32, self._count), self._count))
+        return without_array(told) if out is None else out
 
     def standings(self) -> List[Standing]:
         """How each robot stands, by the robot's number."""

@@ -5,6 +5,7 @@ use crate::code::{Code, CHAPTER_FULL, DONE, NOT_OPEN, NO_NOTICE};
 use crate::error::{check, Error};
 use crate::notices::Notices;
 use crate::number::{Cell, Client, RobotId};
+use crate::opening::Manner;
 use crate::order::{Order, Verdict};
 use crate::raw::{self, Handle, RawArrival, RawJudgement, RawNote, RawOrder};
 use crate::records::{Arrival, Notice, Report, Shown};
@@ -17,6 +18,7 @@ pub struct Fleet {
     pub(crate) robots: usize,
     /// Of the present chapter.
     pub(crate) number: u64,
+    pub(crate) manner: Manner,
     pub(crate) keeper: Option<Keeper>,
 }
 
@@ -229,7 +231,9 @@ impl Fleet {
     /// `Code::ChapterBegun` if the chapter has an entry, and `Code::NoTurns` if the rooms that were found do not pass their
     /// checks.
     pub fn take_turns(&mut self) -> Result<(), Error> {
-        check(unsafe { raw::nashirudder_take_turns(&mut self.handle) })
+        check(unsafe { raw::nashirudder_take_turns(&mut self.handle) })?;
+        self.manner.turns = true;
+        Ok(())
     }
 
     /// Lets the client's mailbox hold this many more notices and unfinished errands.
@@ -267,6 +271,8 @@ impl Fleet {
 
     /// Keeps distances to goals that no robot has any more, up to this many bytes.
     pub fn keep(&mut self, bytes: usize) -> Result<(), Error> {
-        check(unsafe { raw::nashirudder_keep(&mut self.handle, bytes) })
+        check(unsafe { raw::nashirudder_keep(&mut self.handle, bytes) })?;
+        self.manner.kept = Some(bytes);
+        Ok(())
     }
 }

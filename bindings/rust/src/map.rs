@@ -73,14 +73,12 @@ impl Map {
 
     /// The cells that are floor, in their order.
     pub fn floor(&self) -> Result<Vec<u32>, Error> {
-        let shape = self.shape()?;
-        let mut floor = Vec::with_capacity(shape.floor as usize);
-        for cell in 0..shape.cells {
-            if self.joins(cell, cell)? {
-                floor.push(cell);
-            }
-        }
-        Ok(floor)
+        let (mut cells, mut count) = (vec![0; self.shape()?.floor as usize], 0);
+        // SAFETY: a vector's pointer is never null, and its length is true.
+        check(unsafe {
+            raw::nashirudder_map_floor(&self.handle, cells.as_mut_ptr(), cells.len(), &mut count)
+        })?;
+        Ok(cells)
     }
 
     /// Whether a step is free of conflicts, or its first fault.

@@ -362,6 +362,12 @@ extern "C" {
         distances: *mut u32,
         distances_length: usize,
     ) -> u32;
+    pub(crate) fn nashirudder_map_floor(
+        map: *const Handle,
+        cells: *mut u32,
+        cells_length: usize,
+        count: *mut usize,
+    ) -> u32;
     pub(crate) fn nashirudder_map_unroomy(
         map: *const Handle,
         robots: u32,

@@ -2,6 +2,7 @@
 
 use crate::code::{Code, TRACE_SHAPE};
 use crate::error::Error;
+use crate::map::Map;
 use std::fmt::Write;
 
 /// An errand that is accepted and not done, in an [`Opening`].
@@ -69,6 +70,28 @@ impl Opening {
             "{{\"chapter\":{chapter},\"entries\":[],\"opening\":{{\"clients\":{clients},\"life\":{life},\"queue\":{queue},\
              \"robots\":{robots},\"tick\":{tick}}},\"version\":{version}}}"
         )
+    }
+
+    /// What is wrong with the first such robot on this map, in a sentence; none if each stands on a floor cell of its own from
+    /// which a walk leads to each of its errands.
+    pub fn fault(&self, map: &Map) -> Result<Option<String>, Error> {
+        for (robot, of) in self.robots.iter().enumerate() {
+            let cell = of.cell;
+            if !map.joins(cell, cell)? {
+                return Ok(Some(format!("robot {robot} is on cell {cell}, which is no floor")));
+            }
+            if let Some(other) = self.robots[..robot].iter().position(|other| other.cell == cell) {
+                return Ok(Some(format!("robots {other} and {robot} are both on cell {cell}")));
+            }
+            for OpeningErrand { client, number, cell: goal } in &of.errands {
+                if !map.joins(cell, *goal)? {
+                    return Ok(Some(format!(
+                        "no walk leads robot {robot} from cell {cell} to cell {goal}, where its errand {number} of client {client} goes"
+                    )));
+                }
+            }
+        }
+        Ok(None)
     }
 
     /// Takes the errand at this place, from 1, out of the robot's queue, also the one that it heads for. Returns it, if there

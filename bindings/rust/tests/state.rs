@@ -1,7 +1,10 @@
 //! The state of a fleet as a value: kept, gone back to, changed, and gone on from.
 
-use nashirudder::{Code, Error, Fleet, Opening, OpeningErrand, OpeningRobot, Robot, Setup};
+use nashirudder::{Code, Error, Fleet, Map, Opening, OpeningErrand, OpeningRobot, Robot, Setup};
+use std::sync::atomic::{AtomicUsize, Ordering};
+use std::sync::Arc;
 
+const STUB: &[u8] = b"type octile\nheight 3\nwidth 6\nmap\n...@@@\n......\n...@@@\n";
 const RING: &[u8] = b"type octile\nheight 3\nwidth 4\nmap\n....\n.@..\n....\n";
 const WALL: &[u8] = b"type octile\nheight 3\nwidth 4\nmap\n....\n.@@.\n....\n";
 
@@ -55,9 +58,70 @@ fn changes() -> Result<(), Error> {
     assert_eq!(fleet.placement()?[..2], [2, 8]);
     state.robots.remove(0);
     assert_eq!(Fleet::reopen(RING, &state.trace(), &[Robot::at(0); 2], &Setup::new(1))?.placement()?, [4, 10]);
+    // On both maps each robot stands well; then two stand on one cell.
+    let (ring, wall) = (Map::open(RING)?, Map::open(WALL)?);
+    assert_eq!((state.fault(&ring)?, state.fault(&wall)?), (None, None));
+    state.robots[1].move_to(6);
+    assert_eq!(state.fault(&wall)?.as_deref(), Some("robot 1 is on cell 6, which is no floor"));
+    state.robots[0].errands[0].cell = 5;
+    let sentence = "no walk leads robot 0 from cell 4 to cell 5, where its errand 3 of client 0 goes";
+    assert_eq!(state.fault(&ring)?.as_deref(), Some(sentence));
+    state.robots[0].errands[0].cell = 8;
     state.robots[1].move_to(4);
+    assert_eq!(state.fault(&ring)?.as_deref(), Some("robots 0 and 1 are both on cell 4"));
     let refused = Fleet::reopen(RING, &state.trace(), &[Robot::at(0); 2], &Setup::new(1)).expect_err("two on one cell");
     assert_eq!((refused.code, refused.numbers), (Code::ChapterIllegal, (0, 1)));
+    Ok(())
+}
+
+/// A fleet that goes on from another state, in its own manner.
+#[test]
+fn goes_on() -> Result<(), Error> {
+    let robots = [Robot { cell: 0, ranks: [1, 2, 3, 4] }, Robot { cell: 3, ranks: [4, 3, 2, 1] }];
+    let mut fleet = Fleet::open(RING, &robots, &Setup { chapter: 2, ..Setup::endless(1) })?;
+    let kept = Arc::new(AtomicUsize::new(0));
+    let keeper = Arc::clone(&kept);
+    fleet.roll(move |_| keeper.fetch_add(1, Ordering::Relaxed) < usize::MAX);
+    fleet.keep(0)?;
+    assert_eq!(fleet.go(0, 0, 11)?.name(), "accepted");
+    fleet.next_chapter()?;
+    let before = fleet.opening()?;
+    for turn in 1..=2 {
+        for _ in 0..5 {
+            fleet.tick()?;
+        }
+        // Two entries a chapter: after five ticks two chapters were full.
+        assert_eq!((kept.load(Ordering::Relaxed), fleet.clock()?, fleet.placement()?[0]), (2 * turn, 5, 11));
+        fleet.give_all(0)?;
+        fleet.go_on(RING, &before, &robots)?;
+        assert_eq!((fleet.clock()?, fleet.opening()?.chapter, fleet.limits()?.chapter), (0, before.chapter + 1, 2));
+    }
+    // What a map does not suit is refused, and nothing changes.
+    let (mut more, now) = (before.clone(), fleet.trace()?);
+    more.robots.push(OpeningRobot::at(6));
+    assert_eq!(fleet.go_on(WALL, &more, &[]).expect_err("a wall").code, Code::ChapterIllegal);
+    assert_eq!(fleet.go_on(RING, &more, &robots).expect_err("a robot more").code, Code::LawsDiffer);
+    assert_eq!((fleet.trace()?, fleet.robots()), (now, 2));
+    more.queue = 3;
+    fleet.go_on(RING, &more, &[])?;
+    assert_eq!((fleet.robots(), fleet.placement()?[2], fleet.limits()?.queue), (3, 6, 3));
+    more.queue = 1 << 40;
+    assert!(fleet.go_on(RING, &more, &[]).is_err());
+    // Roomy cells and turns are asked for again.
+    let two = [Robot::at(8), Robot::at(11)];
+    let mut roomy = Fleet::open_roomy(STUB, &two, &Setup::new(1))?;
+    roomy.go_on(STUB, &roomy.opening()?, &[])?;
+    assert_eq!(roomy.go(0, 0, 11).expect_err("a dead end").code, Code::NoRoom);
+    let mut turning = Fleet::open(STUB, &two, &Setup::new(1))?;
+    turning.take_turns()?;
+    turning.go_on(STUB, &turning.opening()?, &[])?;
+    for (robot, cell) in [(0, 11), (1, 0)] {
+        assert_eq!(turning.go(0, robot, cell)?.name(), "accepted");
+    }
+    for _ in 0..60 {
+        turning.tick()?;
+    }
+    assert!(turning.is_idle()?);
     Ok(())
 }
 

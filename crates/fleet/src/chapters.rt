@@ -55,7 +55,7 @@ fn move_to<R: Files>(rt: &R, beside: &str, name: &str) -> io::Result<()> {
 
 /// Writes a new file next to its place in a folder, down to the disk, and then gives it its name, so that a file of
 /// this name is always whole and none is ever written over. After a fault no part is left.
-fn keep_text<R: Files>(
+pub(crate) fn keep_text<R: Files>(
     rt: &R,
     folder: &str,
     (beside, name): (&str, &str),

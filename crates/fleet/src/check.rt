@@ -19,6 +19,7 @@ fn answer_files<'a, R: Files + Alloc<A = Global>>(
     let rules = PlanRules {
         form,
         strict: check.strict,
+        all: check.all,
         agents: check.agents,
     };
     let Some(name) = &check.goals else {

@@ -18,6 +18,8 @@ pub(crate) enum FileFault<'a> {
     Missing(&'a str),
     /// It cannot be opened or read.
     Unreadable(&'a str),
+    /// Nothing can be written there, or there is a file of this name.
+    Unwritable(&'a str),
     /// It is longer than such a file may be.
     TooLarge(&'a str),
     /// It begins with a byte order mark.
@@ -93,6 +95,7 @@ fn line_of(alloc: Global, fault: FileFault<'_>) -> Result<String, AllocError> {
     match fault {
         FileFault::Missing(name) => format!(in alloc; "fleet: file {name} missing\n"),
         FileFault::Unreadable(name) => format!(in alloc; "fleet: file {name} unreadable\n"),
+        FileFault::Unwritable(name) => format!(in alloc; "fleet: file {name} unwritable\n"),
         FileFault::TooLarge(name) => format!(in alloc; "fleet: file {name} too-large\n"),
         FileFault::Dense(name) => format!(in alloc; "fleet: file {name} too-dense\n"),
         FileFault::Marked(name) => format!(in alloc; "fleet: file {name} byte-order-mark\n"),

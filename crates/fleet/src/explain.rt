@@ -1,5 +1,6 @@
 //! The word `explain`.
 
+use crate::chain::{Chain, broken_said};
 use crate::ends::{FileFault, MOST_MAP_BYTES, complain, file_bytes};
 use fleet_lib::{
     Explain, MOST_SCRIPT_BYTES, MOST_TRACE_BYTES, Said, answer_explain_head, answer_explain_map,
@@ -19,8 +20,9 @@ fn is_trace(text: &[u8]) -> bool {
     false
 }
 
-/// The answer to the files, which are opened and read in their order.
-fn answer_files<'a, R: Files + Alloc<A = Global>>(
+/// The answer to the files, which are opened and read in their order. A chapter has to be of the map of the last changes before
+/// it.
+fn answer_files<'a, R: Files + Alloc<A = Global> + Clone + Drop>(
     rt: &R,
     explain: &'a Explain,
 ) -> Result<Said, FileFault<'a>> {
@@ -37,7 +39,11 @@ fn answer_files<'a, R: Files + Alloc<A = Global>>(
         return Ok(answer_explain_plan(rt.alloc(), &map, &other)?);
     }
     if is_trace(&other) {
-        return Ok(answer_explain_trace(rt.alloc(), &map, &other)?);
+        let mut chain = Chain::new(map);
+        return match chain.come_to(rt, name.as_str(), &other) {
+            Ok(()) => Ok(answer_explain_trace(rt.alloc(), &chain.map, &other)?),
+            Err(broken) => Ok(broken_said(rt.alloc(), broken)?),
+        };
     }
     if other.len() > MOST_SCRIPT_BYTES {
         return Err(FileFault::TooLarge(name.as_str()));
@@ -47,7 +53,7 @@ fn answer_files<'a, R: Files + Alloc<A = Global>>(
 
 /// Says what is wrong with the files. Returns the status: 0 nothing, 3 a file failed, 4 the map, 5 the script or 6 the
 /// trace or the plan is refused, 7 memory ran out.
-pub(crate) fn run_explain<R: Files + Alloc<A = Global>, W: Write, E: Write>(
+pub(crate) fn run_explain<R: Files + Alloc<A = Global> + Clone + Drop, W: Write, E: Write>(
     rt: &R,
     explain: &Explain,
     output: &mut W,

@@ -3,6 +3,7 @@
 use crate::journals::{JournalFile, journal_numbers, journals_after};
 use crate::kept_file::{KeptFile, file_of};
 use crate::lock::{lock_folder, try_folder};
+use crate::sites::{remove_unmade, site_until};
 use fleet_lib::{InputFault, NamesFault, fail, last_chapter, write_whole};
 use std::alloc::{Alloc, AllocError, Global};
 use std::fs::{self, File, Files};
@@ -90,6 +91,8 @@ pub(crate) struct HeldFolder {
 pub(crate) struct Found {
     pub(crate) kept: Option<KeptFile>,
     pub(crate) journals: Vec<JournalFile>,
+    /// The record of the last changes of the site, if there were any.
+    pub(crate) site: Option<KeptFile>,
 }
 
 impl Found {
@@ -97,6 +100,7 @@ impl Found {
         Found {
             kept: None,
             journals: Vec::new(alloc),
+            site: None,
         }
     }
 
@@ -124,20 +128,23 @@ pub(crate) fn names_in<R: Files + Alloc<A = Global> + Clone + Drop>(
     Ok(names)
 }
 
-/// Whether a chapter or its journal has this name.
+/// Whether a chapter, its journal, or the record of changes before it has this name.
 fn is_chapter(name: &str) -> bool {
+    if name.starts_with("site-") {
+        return name.ends_with(".json");
+    }
     name.starts_with("chapter-") && (name.ends_with(".json") || name.ends_with(".journal"))
 }
 
 /// What is wrong with the names of a folder's files.
-fn fault_of(fault: NamesFault, names: Vec<String>) -> FolderFault {
+fn fault_of(alloc: Global, fault: NamesFault, names: &[String]) -> Result<FolderFault, AllocError> {
     match fault {
-        NamesFault::Unreadable(at) => match names.into_iter().nth(at) {
-            Some(name) => FolderFault::Unreadable(name),
-            None => FolderFault::NoMemory,
+        NamesFault::Unreadable(at) => match names.get(at) {
+            Some(name) => Ok(FolderFault::Unreadable(String::from_str(alloc, name.as_str())?)),
+            None => Ok(FolderFault::NoMemory),
         },
-        NamesFault::Missing(number) => FolderFault::Missing(number),
-        NamesFault::NoMemory => FolderFault::NoMemory,
+        NamesFault::Missing(number) => Ok(FolderFault::Missing(number)),
+        NamesFault::NoMemory => Ok(FolderFault::NoMemory),
     }
 }
 
@@ -145,12 +152,21 @@ fn fault_of(fault: NamesFault, names: Vec<String>) -> FolderFault {
 fn last_of<R: Files + Alloc<A = Global>>(
     rt: &R,
     folder: &str,
-    names: Vec<String>,
+    names: &[String],
 ) -> Result<Option<KeptFile>, FolderFault> {
-    match last_chapter(rt.alloc(), &names) {
+    match last_chapter(rt.alloc(), names) {
         Ok(Some(number)) => Ok(Some(file_of(rt, folder, number)?)),
         Ok(None) => Ok(None),
-        Err(fault) => Err(fault_of(fault, names)),
+        Err(fault) => Err(fault_of(rt.alloc(), fault, names)?),
+    }
+}
+
+/// The number of the last chapter, after the journals became chapters.
+fn last_number(kept: &Option<KeptFile>, journals: &[JournalFile]) -> Option<u32> {
+    match (journals.last(), kept) {
+        (Some(journal), _) => Some(journal.number),
+        (None, Some(file)) => Some(file.number()),
+        (None, None) => None,
     }
 }
 
@@ -158,16 +174,26 @@ fn last_of<R: Files + Alloc<A = Global>>(
 fn found_in<R: Files + Alloc<A = Global>>(
     rt: &R,
     folder: &str,
-    names: Vec<String>,
+    names: &[String],
 ) -> Result<Found, FolderFault> {
-    let numbers = journal_numbers(rt.alloc(), &names)?;
+    let numbers = journal_numbers(rt.alloc(), names)?;
     let kept = last_of(rt, folder, names)?;
     let last = match &kept {
         Some(file) => Some(file.number()),
         None => None,
     };
     let journals = journals_after(rt, folder, &numbers, last)?;
-    Ok(Found { kept, journals })
+    let last = last_number(&kept, &journals);
+    remove_unmade(rt, folder, names, last)?;
+    let site = match last {
+        Some(last) => site_until(rt, folder, names, last)?,
+        None => None,
+    };
+    Ok(Found {
+        kept,
+        journals,
+        site,
+    })
 }
 
 /// What a fleet goes on from in a folder, if it is to go on and there is something. A fleet that begins anew takes no
@@ -184,7 +210,7 @@ fn kept_in<R: Files + Alloc<A = Global> + Clone + Drop>(
         }
         return Ok(Found::nothing(rt.alloc()));
     }
-    let found = found_in(rt, folder, names)?;
+    let found = found_in(rt, folder, &names)?;
     if found.is_nothing() && start == Start::ResumeOnly {
         return Err(FolderFault::NoChapter);
     }

@@ -29,6 +29,11 @@ impl KeptFile {
         &self.text
     }
 
+    /// Its name.
+    pub(crate) fn into_name(self) -> String {
+        self.name
+    }
+
     /// The number of its chapter.
     pub(crate) fn number(&self) -> u32 {
         self.number
@@ -102,6 +107,15 @@ pub(crate) fn file_of<R: Files + Alloc<A = Global>>(
     number: u32,
 ) -> Result<KeptFile, FolderFault> {
     let name = format!(in rt.alloc(); "{folder}/chapter-{number}.json")?;
+    file_named(rt, name, number)
+}
+
+/// The file of this name, which belongs to the chapter of this number.
+pub(crate) fn file_named<R: Files + Alloc<A = Global>>(
+    rt: &R,
+    name: String,
+    number: u32,
+) -> Result<KeptFile, FolderFault> {
     match misfit_of(rt, name.as_str()) {
         Some(Misfit::NoFile) => return Err(FolderFault::NoFile(name)),
         Some(Misfit::TooLarge) => return Err(FolderFault::TooLarge(name)),

@@ -4,10 +4,13 @@
 //! they come. `fleet convert --to FORM MAP INPUT` prints a trace as a plan, or a plan as a trace, and `fleet explain
 //! MAP [INPUT]` says what is wrong with files. `fleet live MAP` keeps a fleet in real time. `fleet judge MAP TRACE..`
 //! judges traces, and `fleet map --robots N MAP` says what a map offers for a fleet. `fleet execute MAP PLAN`
-//! executes a plan. What each word does is in
+//! executes a plan, `fleet sim MAP` runs experiments on a map, and `fleet change MAP CHANGE..` changes the site of a fleet between two
+//! runs. What each word does is in
 //! `fleet_lib`.
 #![tactic(auto)]
 
+mod chain;
+mod change;
 mod chapters;
 mod check;
 mod convert;
@@ -30,12 +33,15 @@ mod map;
 mod piped;
 mod recalling;
 mod recovering;
+mod sim;
+mod sites;
 mod stats;
 mod streams;
 mod talk;
 mod troubles;
 mod view;
 
+use change::run_change;
 use check::run_check;
 use convert::run_convert;
 use descriptors::are_open;
@@ -47,6 +53,7 @@ use judge::run_judge;
 use live::{Kit, hold_live, kit_of};
 use map::run_map;
 use piped::Piped;
+use sim::run_sim;
 use stats::run_stats;
 use std::alloc::{Alloc, Global};
 use std::env::{self, Env};
@@ -126,6 +133,8 @@ fn main(rt: HostRuntime) -> ExitCode {
         Ok(Job::Explain(explain)) => run_explain(&rt, &explain, &mut output, &mut error),
         Ok(Job::Stats(stats)) => run_stats(&rt, &stats, &mut output, &mut error),
         Ok(Job::Judge(judge)) => run_judge(&rt, &judge, &mut output, &mut error),
+        Ok(Job::Sim(asked)) => run_sim(&rt, &asked, &mut output, &mut error),
+        Ok(Job::Change(change)) => run_change(&rt, &change, &mut output, &mut error),
         Ok(Job::Map(asked)) => run_map(&rt, &asked, &mut output, &mut error),
         // Who executes a plan is told that its moves are not read.
         Ok(Job::Execute(execute)) => {

@@ -9,7 +9,7 @@ use std::fs::Files;
 use std::io::Write;
 
 /// How many bytes of chapters are read for it, the last one of them whole.
-const MOST_READ: usize = 67_108_864;
+const MOST_READ: usize = 16_777_216;
 
 /// The notices that the last chapters of a folder tell, of each client no more than are recalled.
 fn recalls_of<R: Files + Alloc<A = Global>>(
@@ -50,7 +50,7 @@ pub(crate) fn past_of<R: Files + Alloc<A = Global>, E: Write + Drop, G: Write>(
     (error, said): (E, &mut G),
 ) -> Result<(Option<KeptFile>, Recalls), u8> {
     let (folder, mut error) = (live.traces.as_deref().unwrap_or(""), error);
-    let kept = recover(rt, (map, folder), found, &mut error, said)?;
+    let (kept, _site) = recover(rt, (map, folder), found, &mut error, said)?;
     match recalls_of(rt, folder, &kept, recall_in(live).unwrap_or(0)) {
         Ok(recalls) => Ok((kept, recalls)),
         Err(AllocError) => Err(fail(InputFault::NoMemory, said)),

@@ -5,7 +5,8 @@ use crate::folder::Found;
 use crate::journals::JournalFile;
 use crate::kept_file::KeptFile;
 use fleet_lib::{
-    InputFault, RecoverFault, Recovered, fail, recover_journal, recover_line, write_whole,
+    InputFault, RecoverFault, Recovered, SiteTrouble, check_site, fail, recover_journal,
+    recover_line, site_line, write_whole,
 };
 use std::alloc::{Alloc, AllocError, Global};
 use std::fs::Files;
@@ -14,6 +15,8 @@ use std::io::{self, ErrorKind, Write};
 /// Why no fleet goes on from the journals of a folder.
 #[derive(Drop)]
 enum Refusal {
+    /// The map is not that of the record of this name, or the record is none.
+    Site(String, SiteTrouble),
     /// This one is no beginning of a legal chapter that follows.
     Journal(String, RecoverFault),
     /// A chapter cannot be written.
@@ -73,24 +76,48 @@ fn recover_one<R: Files + Alloc<A = Global>, E: Write>(
     }
 }
 
-/// Keeps the chapters of all journals. Returns the file of the last chapter.
+/// The record of the last changes, if it is of this map.
+fn checked<R: Alloc<A = Global>>(
+    rt: &R,
+    map: &[u8],
+    site: Option<KeptFile>,
+) -> Result<Option<KeptFile>, Refusal> {
+    let Some(site) = site else {
+        return Ok(None);
+    };
+    match check_site(rt.alloc(), map, site.lent()) {
+        // What is wrong with the map is said next.
+        Ok(()) | Err(SiteTrouble::Map) => Ok(Some(site)),
+        Err(trouble) => Err(Refusal::Site(site.into_name(), trouble)),
+    }
+}
+
+/// Keeps the chapters of all journals, if the map is that of the last changes. Returns the files of the last chapter
+/// and of this record.
 fn recover_each<R: Files + Alloc<A = Global>, E: Write>(
     rt: &R,
     place: (&[u8], &str),
     found: Found,
     error: &mut E,
-) -> Result<Option<KeptFile>, Refusal> {
-    let mut last = found.kept;
-    for journal in found.journals {
+) -> Result<(Option<KeptFile>, Option<KeptFile>), Refusal> {
+    let Found {
+        kept,
+        journals,
+        site,
+    } = found;
+    let site = checked(rt, place.0, site)?;
+    let mut last = kept;
+    for journal in journals {
         let next = recover_one(rt, place, &last, journal, error)?;
         last = Some(next);
     }
-    Ok(last)
+    Ok((last, site))
 }
 
 /// The line that says why no fleet goes on, and the status.
 fn line_of(alloc: Global, refusal: Refusal) -> Result<(String, u8), AllocError> {
     match refusal {
+        Refusal::Site(name, trouble) => Ok((site_line(alloc, name.as_str(), trouble)?, 6)),
         Refusal::Journal(name, fault) => Ok((recover_line(alloc, name.as_str(), fault)?, 6)),
         Refusal::File(name, why) => Ok((
             format!(in alloc; "fleet: file {name} cannot be written: {why}\n")?,
@@ -101,19 +128,19 @@ fn line_of(alloc: Global, refusal: Refusal) -> Result<(String, u8), AllocError> 
 }
 
 /// Keeps the chapters of the journals that were found in a folder, if its fleet is to go on: each is judged as any
-/// chapter, and has to follow the one before. Returns the file of the last chapter. Where a journal is refused, that is
-/// said, and the error is the status.
+/// chapter, and has to follow the one before. Returns the files of the last chapter and of the record of the last changes. Where
+/// the map is another than theirs, or a journal is refused, that is said, and the error is the status.
 pub(crate) fn recover<R: Files + Alloc<A = Global>, E: Write, G: Write>(
     rt: &R,
     place: (&[u8], &str),
     found: Found,
     error: &mut E,
     said: &mut G,
-) -> Result<Option<KeptFile>, u8> {
+) -> Result<(Option<KeptFile>, Option<KeptFile>), u8> {
     let refusal = match recover_each(rt, place, found, error) {
-        Ok(last) => return Ok(last),
+        Ok(files) => return Ok(files),
         // What is wrong with the map is said next.
-        Err(Refusal::Journal(_, RecoverFault::Map)) => return Ok(None),
+        Err(Refusal::Journal(_, RecoverFault::Map)) => return Ok((None, None)),
         Err(refusal) => refusal,
     };
     match line_of(rt.alloc(), refusal) {

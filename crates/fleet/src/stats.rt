@@ -1,7 +1,7 @@
 //! The word `stats`.
 
 use crate::ends::{FileFault, MOST_MAP_BYTES, complain, file_bytes};
-use crate::inputs::{Inputs, traces_in};
+use crate::inputs::{Inputs, PlanUse, traces_in};
 use fleet_lib::{Figures, Said, Stats, answer_stats, tell, write_whole};
 use std::alloc::{Alloc, Global};
 use std::fs::Files;
@@ -14,7 +14,7 @@ fn answer_files<'a, R: Files + Alloc<A = Global>>(
     stats: &'a Stats,
 ) -> Result<Said, FileFault<'a>> {
     let map = file_bytes(rt, stats.map.as_str(), MOST_MAP_BYTES)?;
-    match traces_in(rt, &map, &stats.traces)? {
+    match traces_in(rt, &map, &stats.traces, PlanUse::Counted)? {
         Inputs::Traces(traces) => Ok(answer_stats(
             rt.alloc(),
             figures,

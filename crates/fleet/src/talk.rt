@@ -91,7 +91,7 @@ fn hold_talk<
     };
     let folder = talk.traces.as_deref().unwrap_or("");
     let kept = match recover(rt, (map.as_slice(), folder), found, error, said) {
-        Ok(kept) => kept,
+        Ok((kept, _site)) => kept,
         Err(status) => {
             drop(input);
             return status;

@@ -1,7 +1,7 @@
 //! The word `view`.
 
 use crate::ends::{FileFault, MOST_MAP_BYTES, complain, file_bytes};
-use crate::inputs::{Inputs, traces_in};
+use crate::inputs::{Inputs, PlanUse, traces_in};
 use fleet_lib::{Said, View, answer_view, tell};
 use std::alloc::{Alloc, Global};
 use std::fs::Files;
@@ -13,7 +13,7 @@ fn answer_files<'a, R: Files + Alloc<A = Global>>(
     view: &'a View,
 ) -> Result<Said, FileFault<'a>> {
     let map = file_bytes(rt, view.map.as_str(), MOST_MAP_BYTES)?;
-    match traces_in(rt, &map, &view.traces)? {
+    match traces_in(rt, &map, &view.traces, PlanUse::Shown)? {
         Inputs::Traces(traces) => Ok(answer_view(rt.alloc(), view.shown, &map, &traces)?),
         Inputs::Refused(said) => Ok(said),
     }

@@ -6,6 +6,7 @@ mod AsMapBox
 mod AsShieldBox
 mod BoxWalk
 mod Counted
+mod FloorCells
 mod InTurn
 mod Listed
 mod Places

@@ -1,14 +1,15 @@
 -- What the calls on a map that was opened answer C.
-use Rattle.std.specs.Prelude.{ℕ, ◌≡◌, ◌≢◌, ◌⊎◌, List, length, Option, None, Some}
+use Rattle.std.specs.Prelude.{ℕ, ◌≡◌, ◌≢◌, ◌⊎◌, ◌<◌, ◌↔◌, List, ◌++◌, drop, filter, length, Option, None, Some}
+use Rattle.std.specs.List.{range_with_len}
 use Rattle.fleet_grid.specs.Counts.{edge_count, floor_count}
-use Rattle.fleet_grid.specs.Floor.{Floor, IsFloor, IsNeighbour}
+use Rattle.fleet_grid.specs.Floor.{Floor, IsFloor, IsNeighbour, is_floor}
 use Rattle.fleet_grid.specs.Walk.{AreJoined}
 use Rattle.fleet_roomy.specs.Unroomy.{IsUnroomyCell}
 use Rattle.fleet_survey.specs.Served.{IsServedLimit}
 use Rattle.fleet_survey.specs.Survey.{AreCells}
 use Rattle.fleet_c.specs.Errands.{IsListed}
 use Rattle.fleet_c.specs.OwnsMap.{HeldValue}
-use Rattle.fleet_c.specs.declared.codes.TheConstants.{DONE, NOT_OPEN, NO_MEMORY, NO_TURNS}
+use Rattle.fleet_c.specs.declared.codes.TheConstants.{DONE, NOT_OPEN, NO_MEMORY, NO_TURNS, WRONG_LENGTH}
 use Rattle.fleet_c.specs.declared.map_shape.MapShape.{MapShape}
 
 -- a closed handle is refused and stays closed; this is said of the floor of an open one, which stays as it is
@@ -26,6 +27,18 @@ pub record IsShape (m : Floor) (shape : MapShape) : Type 0 where
 -- both cells are floor, and a walk joins them
 abbrev pub AreOnePart : Floor → ℕ → ℕ → Type 0
 AreOnePart m a b = IsFloor m a × IsFloor m b × AreJoined (IsNeighbour m) a b
+
+-- the floor cells, in their order
+abbrev pub floor_cells : Floor → List ℕ
+floor_cells m = filter (is_floor m) (range_with_len 0 (length m.letters))
+
+-- they are told in the first places of the list; or, where it has fewer places, only how many they are
+pub record ListsFloor (m : Floor) (code : ℕ) (before after : List ℕ) (count : ℕ) : Type 0 where
+  pub counted : count ≡ length (floor_cells m)
+  pub short : (code ≡ WRONG_LENGTH) ↔ (length before < length (floor_cells m))
+  pub listed : code ≡ DONE → after ≡ floor_cells m ++ drop (length (floor_cells m)) before
+  pub stays : code ≢ DONE → after ≡ before
+  pub codes : code ≢ DONE → code ≡ WRONG_LENGTH
 
 -- a list of the floor cells that are not roomy for n robots, each once, in their order, is told
 pub record TellsUnroomy (m : Floor) (n code : ℕ) (before after : List ℕ) (had count : ℕ) : Type 0 where

@@ -27,6 +27,7 @@ mod law;
 mod life;
 mod mailboxes;
 mod map_calls;
+mod map_floor;
 mod map_handle;
 mod map_rooms;
 mod map_shape;

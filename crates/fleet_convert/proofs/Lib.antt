@@ -7,5 +7,6 @@ mod Steps
 mod MovesBack
 mod Legal
 mod Traced
+mod ToldOf
 mod Pieces
 mod Converted

@@ -26,7 +26,7 @@ places_are place places = ap (λ (xs : List ℕ). xs ∷ ticks_in (map tick_to p
 
 -- ---- a plan that was studied
 
-one_map : (n m : Map) (o : Result Map MapFault) → o ≡ Ok n → o ≡ Ok m → m ≡ n
+pub one_map : (n m : Map) (o : Result Map MapFault) → o ≡ Ok n → o ≡ Ok m → m ≡ n
 one_map n m o first second = let same : Ok n ≡ Ok m = sym first ∙ second in cc
 
 -- what a study answers is the answer

@@ -5,3 +5,4 @@ pub mod Runners
 pub mod Listing
 pub mod Converted
 pub mod PlanTrace
+pub mod Shown

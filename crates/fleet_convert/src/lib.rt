@@ -8,6 +8,7 @@ mod law;
 mod listing;
 mod moves;
 mod runners;
+mod shown;
 mod step;
 mod tracing;
 
@@ -18,4 +19,5 @@ pub use law::{cells_read_back, legal_places_are_a_plan, moves_read_back, plan_tr
 pub use listing::{Listing, listed_plan};
 pub use moves::moves_plan;
 pub use runners::runners_plan;
+pub use shown::trace_of_invalid;
 pub use tracing::{TracingFault, trace_of_plan};

@@ -40,7 +40,7 @@ impl From<AllocError> for TracingFault {
 }
 
 /// The greatest number of robots in a trace.
-const MOST_ROBOTS: u32 = 512;
+pub(crate) const MOST_ROBOTS: u32 = 512;
 
 /// The only stamp of robots that never arrive.
 const NO_STAMP: StampLaw = StampLaw { low: 0, high: 0 };
@@ -123,7 +123,7 @@ fn ticks_of(alloc: Global, places: &Placements) -> Result<Vec<Entry>, AllocError
 }
 
 /// The chapter of a plan with these placements.
-fn chapter_of(alloc: Global, places: &Placements) -> Result<Chapter, AllocError>
+pub(crate) fn chapter_of(alloc: Global, places: &Placements) -> Result<Chapter, AllocError>
     ensures { IfOk result (λ chapter. trace_of chapter ≡ plan_trace places.now) }
 {
     let opening = stood(alloc, places.at(0))?;
@@ -178,7 +178,7 @@ fn trace_from(
 }
 
 /// The fault of a map; an error for out of memory.
-fn map_fault(fault: MapFault) -> Result<MapFault, AllocError>
+pub(crate) fn map_fault(fault: MapFault) -> Result<MapFault, AllocError>
     ensures same { IfOk result (λ named. named ≡ fault) }
     ensures named { IfOk result (λ named. named ≢ MapFault.NoMemory) }
 {

@@ -26,6 +26,8 @@ use Rattle.fleet_lib.specs.declared.words.stats.Stats.{Stats as StatsJob}
 use Rattle.fleet_lib.specs.declared.words.judge.Judge.{Judge as JudgeJob}
 use Rattle.fleet_lib.specs.declared.words.map.MapJob.{MapJob}
 use Rattle.fleet_lib.specs.declared.words.execute.Execute.{Execute as ExecuteJob}
+use Rattle.fleet_lib.specs.declared.words.sim.SimJob.{SimJob}
+use Rattle.fleet_lib.specs.declared.words.change.ChangeJob.{ChangeJob}
 use Rattle.fleet_lib.specs.declared.words.job.Job.{Job}
 use Rattle.fleet_lib.specs.declared.words.job.Job.TheVariants as job
 
@@ -70,6 +72,7 @@ IsCountAsked rows (Some count) = (word : Text) × (first_of (codes "agents") row
 -- what the words after `check` ask for
 pub record IsCheck (rows : List Row) (check : CheckJob) : Type 0 where
   pub strict : check.strict ≡ has_flag (codes "strict") rows
+  pub all : check.all ≡ has_flag (codes "all") rows
   pub form : check.form ≡ form_in rows
   pub goals : first_of (codes "goals") rows ≡ option_map (λ s. string_bytes s) check.goals
   pub agents : IsCountAsked rows check.agents
@@ -182,6 +185,15 @@ pub record IsMapJob (rows : List Row) (asked : MapJob) : Type 0 where
   pub json : asked.json ≡ has_flag (codes "json") rows
   pub floor : first_of (codes "MAP") rows ≡ Some (string_bytes asked.map)
 
+-- what the words after `change` ask for
+pub record IsChange (rows : List Row) (change : ChangeJob) : Type 0 where
+  pub traces : first_of (codes "traces") rows ≡ Some (string_bytes change.traces)
+  pub to : first_of (codes "to") rows ≡ Some (string_bytes change.to)
+  pub renumber : change.renumber ≡ has_flag (codes "renumber") rows
+  pub dry_run : change.dry_run ≡ has_flag (codes "dry-run") rows
+  pub floor : first_of (codes "MAP") rows ≡ Some (string_bytes change.map)
+  pub changes : all_of (codes "CHANGE") rows ≡ Some (map (λ s. string_bytes s) change.changes.items)
+
 -- what the words after `execute` ask for
 pub record IsExecute (rows : List Row) (execute : ExecuteJob) : Type 0 where
   pub clearance : first_of (codes "clearance") rows ≡ option_map (λ s. string_bytes s) execute.clearance
@@ -189,6 +201,21 @@ pub record IsExecute (rows : List Row) (execute : ExecuteJob) : Type 0 where
   pub form : execute.form ≡ form_in rows
   pub floor : first_of (codes "MAP") rows ≡ Some (string_bytes execute.map)
   pub plan : first_of (codes "PLAN") rows ≡ Some (string_bytes execute.plan)
+
+-- what the words after `sim` ask for
+pub record IsSimJob (rows : List Row) (asked : SimJob) : Type 0 where
+  pub floor : first_of (codes "MAP") rows ≡ Some (string_bytes asked.map)
+  pub robots : first_of (codes "robots") rows ≡ option_map (λ s. string_bytes s) asked.robots
+  pub ticks : first_of (codes "ticks") rows ≡ option_map (λ s. string_bytes s) asked.ticks
+  pub warm_up : first_of (codes "warm-up") rows ≡ option_map (λ s. string_bytes s) asked.warm_up
+  pub seeds : first_of (codes "seeds") rows ≡ option_map (λ s. string_bytes s) asked.seeds
+  pub cells : first_of (codes "cells") rows ≡ option_map (λ s. string_bytes s) asked.cells
+  pub roomy : asked.roomy ≡ has_flag (codes "roomy") rows
+  pub planner : first_of (codes "planner") rows ≡ option_map (λ s. string_bytes s) asked.planner
+  pub traces : first_of (codes "traces") rows ≡ option_map (λ s. string_bytes s) asked.traces
+  pub times : asked.times ≡ has_flag (codes "times") rows
+  pub csv : asked.csv ≡ has_flag (codes "csv") rows
+  pub json : asked.json ≡ has_flag (codes "json") rows
 
 -- the job of a subcommand and the words that stand for its arguments
 abbrev pub IsJobOf : Option (Text × List Row) → Job → Type 0
@@ -202,3 +229,5 @@ IsJobOf found (job.Stats stats) = (rows : List Row) × (found ≡ Some (codes "s
 IsJobOf found (job.Judge judge) = (rows : List Row) × (found ≡ Some (codes "judge", rows)) × IsJudge rows judge
 IsJobOf found (job.Map asked) = (rows : List Row) × (found ≡ Some (codes "map", rows)) × IsMapJob rows asked
 IsJobOf found (job.Execute execute) = (rows : List Row) × (found ≡ Some (codes "execute", rows)) × IsExecute rows execute
+IsJobOf found (job.Sim asked) = (rows : List Row) × (found ≡ Some (codes "sim", rows)) × IsSimJob rows asked
+IsJobOf found (job.Change change) = (rows : List Row) × (found ≡ Some (codes "change", rows)) × IsChange rows change

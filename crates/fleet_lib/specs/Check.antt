@@ -1,5 +1,5 @@
 -- What the word `check` prints.
-use Rattle.std.specs.Prelude.{◌≡◌, ℕ, ◌==◌, if◌then◌else◌, List, [], ◌++◌, Option, Some, None, codes, decimal}
+use Rattle.std.specs.Prelude.{◌≡◌, ℕ, ◌==◌, ◌&&◌, Bool, true, false, if◌then◌else◌, List, [], ◌∷◌, ◌++◌, Option, Some, None, codes, decimal}
 use Rattle.fleet_text.specs.declared.said.Complaint.TheVariants as complaint
 use Rattle.fleet_text.specs.Complaint.{complaint_text}
 use Rattle.fleet_plans.specs.declared.answer.PlanAnswer.{PlanAnswer}
@@ -17,6 +17,8 @@ use Rattle.fleet_plans.specs.Misspelt.{misspelt_of, misspelt_text}
 use Rattle.fleet_plans.specs.Form.{form_of}
 use Rattle.fleet_plans.specs.Reading.{head_by}
 use Rattle.fleet_plans.specs.Told.{told_text}
+use Rattle.fleet_conflicts.specs.declared.conflicts.Conflict.{Conflict}
+use Rattle.fleet_conflicts.specs.Conflicts.{AreConflictsOf, is_invalid}
 use Rattle.fleet_lib.specs.declared.check.PlanRules.{PlanRules}
 use Rattle.fleet_lib.specs.Said.{Outcome}
 
@@ -69,10 +71,29 @@ abbrev pub sized : Option ℕ → PlanAnswer → PlanAnswer
 sized None a = a
 sized (Some count) a = counted count a
 
+-- a line for each conflict
+abbrev pub conflict_text : Conflict → List ℕ
+conflict_text c = codes "invalid " ++ (decimal c.time ++ (codes " " ++ (fault_text c.fault ++ codes "\n")))
+
+abbrev pub conflicts_text : List Conflict → List ℕ
+conflicts_text [] = []
+conflicts_text (c ∷ cs) = conflict_text c ++ conflicts_text cs
+
+abbrev pub AreSaid : TextForm → List ℕ → List ℕ → Outcome → Type 0
+AreSaid form map plan said = (conflicts : List Conflict) × AreConflictsOf form map plan conflicts × (said ≡ good (conflicts_text conflicts) 6)
+
+abbrev pub IsSaidIf : Bool → TextForm → List ℕ → List ℕ → PlanAnswer → Outcome → Type 0
+IsSaidIf true form map plan a said = AreSaid form map plan said
+IsSaidIf false form map plan a said = said ≡ outcome_of a
+
+-- where all are asked for, each conflict of a plan that is not valid; else as the answer is
+abbrev pub IsSaidOf : Bool → TextForm → List ℕ → List ℕ → PlanAnswer → Outcome → Type 0
+IsSaidOf all form map plan a said = IsSaidIf (all && is_invalid a) form map plan a said
+
 -- what is said of a plan that is read in this form
 abbrev pub IsOutcomeBy : TextForm → PlanRules → Option (List ℕ) → List ℕ → List ℕ → Outcome → Type 0
 IsOutcomeBy form rules scenario map plan o =
-    (a : PlanAnswer) × IsFormAnswer form rules.strict scenario map plan a × (o ≡ noted (misspelt_of 1 (head_by form plan)) (outcome_of (sized rules.agents a)))
+    (a : PlanAnswer) × (said : Outcome) × IsFormAnswer form rules.strict scenario map plan a × IsSaidOf rules.all form map plan (sized rules.agents a) said × (o ≡ noted (misspelt_of 1 (head_by form plan)) said)
 
 -- what is said to a map and a plan, of which it may be asked that each robot ends on its goal, or does what a scenario says, and that there are
 -- as many robots

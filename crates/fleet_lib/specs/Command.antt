@@ -1,5 +1,5 @@
 -- The words that the program takes.
-use Rattle.std.specs.Prelude.{[], ◌∷◌, true, codes}
+use Rattle.std.specs.Prelude.{List, [], ◌∷◌, true, codes}
 use Rattle.clap.specs.Words.{App, new_app, new_rule}
 use Rattle.command_words.specs.Table.{file_rule, files_rule, flag_rule, value_rule, values_rule, required_value_rule, number_rule, with_rules, program_top, with_words}
 
@@ -8,10 +8,10 @@ abbrev pub view_app : App
 view_app = with_rules (new_app (codes "view"))
     (flag_rule (codes "svg") ∷ number_rule (codes "tick") ∷ file_rule (codes "MAP") ∷ files_rule (codes "TRACE") ∷ [])
 
--- check [--strict] [--form FORM] [--goals SCENARIO] [--agents N] MAP PLAN
+-- check [--strict] [--all] [--form FORM] [--goals SCENARIO] [--agents N] MAP PLAN
 abbrev pub check_app : App
 check_app = with_rules (new_app (codes "check"))
-    (flag_rule (codes "strict") ∷ value_rule (codes "form") ∷ value_rule (codes "goals") ∷ number_rule (codes "agents") ∷ file_rule (codes "MAP") ∷ file_rule (codes "PLAN") ∷ [])
+    (flag_rule (codes "strict") ∷ flag_rule (codes "all") ∷ value_rule (codes "form") ∷ value_rule (codes "goals") ∷ number_rule (codes "agents") ∷ file_rule (codes "MAP") ∷ file_rule (codes "PLAN") ∷ [])
 
 -- talk [--marks] [--roll] [--chapter-bytes N] [--roomy] [--planner NAME] [--traces DIR] [--resume] [--resume-only] MAP [SCRIPT]
 abbrev pub talk_app : App
@@ -53,6 +53,21 @@ abbrev pub execute_app : App
 execute_app = with_rules (new_app (codes "execute"))
     (value_rule (codes "clearance") ∷ number_rule (codes "ahead") ∷ value_rule (codes "form") ∷ file_rule (codes "MAP") ∷ file_rule (codes "PLAN") ∷ [])
 
+-- sim --robots LIST --ticks N [--warm-up N] [--seeds N] [--cells FILE] [--roomy] [--planner NAME] [--traces DIR] [--times] [--csv] [--json] MAP
+abbrev pub sim_app : App
+sim_app = with_rules (new_app (codes "sim"))
+    (value_rule (codes "robots") ∷ value_rule (codes "ticks") ∷ value_rule (codes "warm-up") ∷ value_rule (codes "seeds") ∷ value_rule (codes "cells") ∷ flag_rule (codes "roomy") ∷ value_rule (codes "planner")
+    ∷ value_rule (codes "traces") ∷ flag_rule (codes "times") ∷ flag_rule (codes "csv") ∷ flag_rule (codes "json") ∷ file_rule (codes "MAP") ∷ [])
+
+-- change --traces DIR --to OUT [--renumber] [--dry-run] MAP CHANGE..
+abbrev pub change_app : App
+change_app = with_rules (new_app (codes "change"))
+    (required_value_rule (codes "traces") ∷ required_value_rule (codes "to") ∷ flag_rule (codes "renumber") ∷ flag_rule (codes "dry-run") ∷ file_rule (codes "MAP") ∷ files_rule (codes "CHANGE") ∷ [])
+
+-- the words of fleet
+abbrev pub word_apps : List App
+word_apps = view_app ∷ check_app ∷ talk_app ∷ convert_app ∷ explain_app ∷ live_app ∷ stats_app ∷ judge_app ∷ map_app ∷ execute_app ∷ sim_app ∷ change_app ∷ []
+
 -- fleet, which tells its version and wants a word
 abbrev pub fleet_app : App
-fleet_app = with_words (program_top (codes "fleet") true) (view_app ∷ check_app ∷ talk_app ∷ convert_app ∷ explain_app ∷ live_app ∷ stats_app ∷ judge_app ∷ map_app ∷ execute_app ∷ [])
+fleet_app = with_words (program_top (codes "fleet") true) word_apps

@@ -18,3 +18,4 @@ pub mod Judge
 pub mod Execute
 pub mod Length
 pub mod Planner
+pub mod Sim

@@ -1,11 +1,14 @@
 -- What is said of a plan that is to be a trace.
-use Rattle.std.specs.Prelude.{◌≡◌, ℕ, Bool, true, false, List, [], ◌++◌, codes, decimal}
+use Rattle.std.specs.Prelude.{◌≡◌, ◌⊎◌, ℕ, Bool, true, false, List, [], ◌++◌, Option, Some, None, codes, decimal, string_bytes}
+use Rattle.std.specs.declared.string.String.{String}
+use Rattle.std.specs.declared.alloc.Global.{Global}
 use Rattle.fleet_plans.specs.declared.answer.PlanAnswer.{PlanAnswer}
 use Rattle.fleet_plans.specs.declared.answer.PlanAnswer.TheVariants as answer
 use Rattle.fleet_plans.specs.Form.{is_plan}
 use Rattle.fleet_convert.specs.declared.tracing.TracingFault.{TracingFault}
 use Rattle.fleet_convert.specs.declared.tracing.TracingFault.TheVariants as fault
 use Rattle.fleet_convert.specs.PlanTrace.{IsTraced, IsUntraced}
+use Rattle.fleet_convert.specs.Shown.{is_invalid, IsInvalidShown}
 use Rattle.fleet_lib.specs.declared.plan_trace.Traced.{Traced}
 use Rattle.fleet_lib.specs.declared.plan_trace.Traced.TheVariants as told
 use Rattle.fleet_lib.specs.Said.{Outcome, said_of}
@@ -40,3 +43,22 @@ IsTracedIf false map input (told.Refused said) = ⊥
 -- a plan becomes a trace, any other text stays as it is
 abbrev pub IsTracedAs : List ℕ → List ℕ → Traced → Type 0
 IsTracedAs map input t = IsTracedIf (is_plan input) map input t
+
+-- a plan was read, and breaks a rule
+abbrev pub is_conflict : TracingFault → Bool
+is_conflict (fault.NoPlan a) = is_invalid a
+is_conflict f = false
+
+-- what is shown is the trace of a plan, legal or not; or this is why nothing is, and then a plan that breaks a rule has too many robots or cells off the map
+abbrev pub IsShownBy : List ℕ → List ℕ → Traced → Type 0
+IsShownBy map plan (told.Trace text) = IsTraced map plan text.items ⊎ ((shown : String Global) × IsInvalidShown map plan (Some shown) × (text.items ≡ string_bytes shown))
+IsShownBy map plan (told.Refused said) = (f : TracingFault) × IsUntraced map plan f × (said_of said ≡ untraced f) × (is_conflict f ≡ true → IsInvalidShown map plan None)
+
+abbrev pub IsShownIf : Bool → List ℕ → List ℕ → Traced → Type 0
+IsShownIf true map input t = IsShownBy map input t
+IsShownIf false map input (told.Trace text) = text.items ≡ input
+IsShownIf false map input (told.Refused said) = ⊥
+
+-- a plan becomes a trace to be looked at, any other text stays as it is
+abbrev pub IsShownAs : List ℕ → List ℕ → Traced → Type 0
+IsShownAs map input t = IsShownIf (is_plan input) map input t

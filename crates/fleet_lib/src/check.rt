@@ -1,18 +1,20 @@
 //! The word `check`.
 
-ghost use Rattle.std.specs.Prelude.{◌≡◌, ◌≤◌, Some, length, string_bytes, IfOk, IfSome};
+ghost use Rattle.std.specs.Prelude.{◌≡◌, ◌≤◌, ◌++◌, Some, length, string_bytes, IfOk, IfSome, OnOk};
 ghost use Rattle.std.specs.Option.{option_copied};
 ghost use Rattle.fleet_lib.specs.Said.{said_of};
-ghost use Rattle.fleet_lib.specs.Check.{form_by, counted, sized, IsCheckOutcome, good, refused, outcome_of, goals_outcome, noted, invalid_text};
+ghost use Rattle.fleet_conflicts.specs.Conflicts.{is_invalid};
+ghost use Rattle.fleet_lib.specs.Check.{form_by, counted, sized, IsCheckOutcome, AreSaid, IsSaidOf, conflict_text, conflicts_text, good, refused, outcome_of, goals_outcome, noted, invalid_text};
 
 use crate::said::Said;
+use fleet_conflicts::{Conflict, conflicts_of};
 use fleet_plans::{
     FaultText, GoalFault, HeadFault, HeadKey, MOST_PLAN_BYTES, Misspelt, PlanAnswer, PlanFault,
     TextForm, check_form, first_misspelt, form_of,
 };
 use fleet_text::Complaint;
 use std::alloc::{AllocError, Global};
-use std::fmt;
+use std::fmt::{self, Write};
 
 /// The line of a plan that is not valid.
 #[derive(Clone, Copy)]
@@ -161,6 +163,8 @@ pub struct PlanRules {
     pub form: Option<TextForm>,
     /// Whether each robot has to end on its goal.
     pub strict: bool,
+    /// Whether each conflict is said, not the first alone.
+    pub all: bool,
     /// How many robots it has to have, if a number is asked for.
     pub agents: Option<u32>,
 }
@@ -191,6 +195,65 @@ fn sized(agents: Option<u32>, answer: PlanAnswer) -> PlanAnswer
     }
 }
 
+/// Whether a plan was read and is not valid.
+fn is_invalid(answer: PlanAnswer) -> bool
+    ensures { result ≡ is_invalid answer }
+{
+    matches!(answer, PlanAnswer::Invalid(_))
+}
+
+/// Writes the line of a conflict.
+fn write_conflict(text: &mut String, conflict: Conflict) -> Result<(), AllocError>
+    ensures { OnOk result (string_bytes text.new ≡ string_bytes text.old ++ conflict_text conflict) }
+{
+    let (time, fault) = (conflict.time, FaultText(conflict.fault));
+    writeln!(text, "invalid {time} {fault}")
+}
+
+/// Writes a line for each conflict.
+fn write_conflicts(text: &mut String, conflicts: &[Conflict]) -> Result<(), AllocError>
+    ensures { OnOk result (string_bytes text.new ≡ string_bytes text.old ++ conflicts_text conflicts.now) }
+{
+    for conflict in conflicts {
+        write_conflict(text, *conflict)?;
+    }
+    Ok(())
+}
+
+/// The answer to a plan that is not valid, with a line for each conflict.
+fn said_of_conflicts(
+    alloc: Global,
+    form: TextForm,
+    map: &[u8],
+    plan: &[u8],
+) -> Result<Said, AllocError>
+    requires { length plan.now ≤ MOST_PLAN_BYTES }
+    ensures { IfOk result (λ s. AreSaid form map.now plan.now (said_of s)) }
+{
+    let conflicts = conflicts_of(alloc, form, map, plan)?;
+    let mut text = String::new(alloc);
+    write_conflicts(&mut text, &conflicts)?;
+    invalid(alloc, &text)
+}
+
+/// The program's answer, or each conflict, if all are asked for.
+fn said_in_all(
+    alloc: Global,
+    all: bool,
+    form: TextForm,
+    map: &[u8],
+    plan: &[u8],
+    answer: PlanAnswer,
+) -> Result<Said, AllocError>
+    requires { length plan.now ≤ MOST_PLAN_BYTES }
+    ensures { IfOk result (λ s. IsSaidOf all form map.now plan.now answer (said_of s)) }
+{
+    if all && is_invalid(answer) {
+        return said_of_conflicts(alloc, form, map, plan);
+    }
+    said_of_answer(alloc, answer)
+}
+
 /// The answer to a map and a plan: what `check_form` answers, and whether there are as many robots as asked for, as
 /// text.
 pub fn answer_check(
@@ -206,6 +269,13 @@ pub fn answer_check(
 {
     let form = form_by(rules.form, plan);
     let answer = check_form(alloc, form, rules.strict, scenario, map, plan)?;
-    let said = said_of_answer(alloc, sized(rules.agents, answer))?;
+    let said = said_in_all(
+        alloc,
+        rules.all,
+        form,
+        map,
+        plan,
+        sized(rules.agents, answer),
+    )?;
     noted(alloc, first_misspelt(form, plan), said)
 }

@@ -74,12 +74,33 @@ fn said_by(alloc: Global, name: &str) -> Result<Named, AllocError>
     }
 }
 
+/// What a name says as that of a chapter.
+pub fn chapter_named(alloc: Global, name: &str) -> Result<Named, AllocError>
+    ensures { IfOk result (IsNamed name.now) }
+{
+    said_by(alloc, name)
+}
+
 /// What a name says as that of a journal.
 pub fn journal_named(alloc: Global, name: &str) -> Result<Named, AllocError> {
     let Some(rest) = name.as_bytes().strip_prefix(b"chapter-".as_slice()) else {
         return Ok(Named::Other);
     };
     let Some(middle) = rest.strip_suffix(b".journal".as_slice()) else {
+        return Ok(Named::Other);
+    };
+    match numeral(alloc, middle)? {
+        Some(number) => Ok(Named::Chapter(number)),
+        None => Ok(Named::Unreadable),
+    }
+}
+
+/// What a name says as that of a record of changes.
+pub fn site_named(alloc: Global, name: &str) -> Result<Named, AllocError> {
+    let Some(rest) = name.as_bytes().strip_prefix(b"site-".as_slice()) else {
+        return Ok(Named::Other);
+    };
+    let Some(middle) = rest.strip_suffix(b".json".as_slice()) else {
         return Ok(Named::Other);
     };
     match numeral(alloc, middle)? {

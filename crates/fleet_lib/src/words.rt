@@ -2,6 +2,7 @@
 //! of its own (such as `view`), a variant of `Job`, and a line in `program` and in `job_from`.
 
 mod arguments;
+mod change;
 mod check;
 mod convert;
 mod execute;
@@ -11,10 +12,12 @@ mod judge;
 mod live;
 mod map;
 mod program;
+mod sim;
 mod stats;
 mod talk;
 mod view;
 
+pub use change::ChangeJob;
 pub use check::{Check, FormAsked};
 pub use command_words::WordFault;
 pub use convert::{Convert, Target};
@@ -25,6 +28,7 @@ pub use judge::Judge;
 pub use live::Live;
 pub use map::MapJob;
 pub(crate) use program::VERSION;
+pub use sim::SimJob;
 pub use stats::{Figures, Stats};
 pub use talk::Talk;
 pub use view::{Shown, View};

@@ -1,5 +1,6 @@
 pub mod AfterInOrder
 pub mod AfterSite
+pub mod Apart
 pub mod Cancelled
 pub mod Chained
 pub mod ChapterEnd

@@ -1,6 +1,7 @@
 pub mod Account
 pub mod After
 pub mod Changed
+pub mod Everyone
 pub mod Fault
 pub mod InOrder
 pub mod Map

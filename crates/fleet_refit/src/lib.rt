@@ -6,6 +6,7 @@ mod change;
 mod changing;
 mod copying;
 mod cutting;
+mod everyone;
 mod making;
 mod map;
 mod opening;

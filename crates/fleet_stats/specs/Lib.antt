@@ -5,4 +5,6 @@ pub mod Figures
 pub mod Text
 pub mod Report
 pub mod Counts
+pub mod Ranks
+pub mod Later
 pub mod inside

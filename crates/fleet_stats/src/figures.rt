@@ -46,7 +46,7 @@ pub(crate) struct Summary {
 }
 
 /// The times from acceptance to arrival.
-fn service_times(alloc: Global, rows: &[ErrandRow]) -> Result<Vec<u64>, AllocError>
+pub(crate) fn service_times(alloc: Global, rows: &[ErrandRow]) -> Result<Vec<u64>, AllocError>
     ensures { IfOk result (λ times. times.items ≡ service_times rows.now) }
 {
     rows.iter()
@@ -55,7 +55,7 @@ fn service_times(alloc: Global, rows: &[ErrandRow]) -> Result<Vec<u64>, AllocErr
 }
 
 /// The times from when robots began errands to the arrivals.
-fn wait_times(alloc: Global, rows: &[ErrandRow]) -> Result<Vec<u64>, AllocError>
+pub(crate) fn wait_times(alloc: Global, rows: &[ErrandRow]) -> Result<Vec<u64>, AllocError>
     ensures { IfOk result (λ times. times.items ≡ wait_times rows.now) }
 {
     rows.iter()
@@ -82,15 +82,15 @@ pub(crate) fn arrivals_of(alloc: Global, ticks: &[TickRow]) -> Result<Vec<u64>, 
 
 /// What ticks add up to, and the longest wait in any of them.
 #[derive(Clone, Copy)]
-struct Totals {
-    arrivals: u64,
-    moves: u64,
-    idle: u64,
-    waited: u64,
+pub(crate) struct Totals {
+    pub(crate) arrivals: u64,
+    pub(crate) moves: u64,
+    pub(crate) idle: u64,
+    pub(crate) waited: u64,
 }
 
 /// The totals of ticks.
-fn totals_of(ticks: &[TickRow]) -> Totals
+pub(crate) fn totals_of(ticks: &[TickRow]) -> Totals
     ensures { result ≡ record {
       arrivals = total_by (λ x. x.arrivals) ticks.now;
       moves = total_by (λ x. x.moves) ticks.now;
@@ -114,7 +114,7 @@ fn totals_of(ticks: &[TickRow]) -> Totals
 }
 
 /// The steps on the ways to errands, and the distances of these errands.
-fn ways_of(rows: &[ErrandRow]) -> (u64, u64)
+pub(crate) fn ways_of(rows: &[ErrandRow]) -> (u64, u64)
     ensures steps { result.0 ≡ total_by (λ x. x.done.leg.steps) rows.now }
     ensures distance { result.1 ≡ total_by (λ x. unwrap_or x.distance 0) rows.now }
 {

@@ -218,7 +218,7 @@ tr.picked > * { background: color-mix(in srgb, var(--accent) 30%, transparent); 
 <section class="card"><h2>Entries up to the next tick</h2><ol id="entries" class="scroll" tabindex="0" aria-label="Entries up to the next tick"></ol></section>
 <section class="card"><h2>All events <span id="events-count" class="told"></span></h2>
 <div class="bar" role="group" aria-label="Events that are listed">
-<select id="events-kind" aria-label="Kind"><option value="all">all kinds</option><option value="orders">orders</option><option value="refusals">refused orders</option><option value="arrivals">arrivals</option><option value="shuts">shuts and farewells</option><option value="chapters">chapters</option></select>
+<select id="events-kind" aria-label="Kind"><option value="all">all kinds</option><option value="orders">orders</option><option value="refusals">refused orders</option><option value="arrivals">arrivals</option><option value="shuts">shuts and farewells</option><option value="conflicts">conflicts</option><option value="chapters">chapters</option></select>
 <select id="events-client" aria-label="Client"></select>
 <select id="events-robot" aria-label="Robot"></select>
 </div>

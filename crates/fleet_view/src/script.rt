@@ -277,49 +277,61 @@ const RULES = [
 
 const NO_DETAIL = { detail: '', robots: [], cells: [] };
 
-// Two robots on one cell, or one on a cell that is no floor.
-function detailOfPlaces(map, cells) {
+// Of each robot: that its cell is no floor, or that another one, the first of them, is on it.
+function* faultsOfPlaces(map, cells) {
   const first = new Map();
   for (let robot = 0; robot < cells.length; robot += 1) {
     const cell = cells[robot];
     if (!map.floor[cell]) {
-      return { detail: `robot ${robot} is on cell ${cell}, which is no floor`, robots: [robot], cells: [cell] };
-    }
-    if (first.has(cell)) {
+      yield { detail: `robot ${robot} is on cell ${cell}, which is no floor`, robots: [robot], cells: [cell] };
+    } else if (first.has(cell)) {
       const other = first.get(cell);
-      return { detail: `robots ${other} and ${robot} are on cell ${cell}`, robots: [other, robot], cells: [cell] };
+      yield { detail: `robots ${other} and ${robot} are on cell ${cell}`, robots: [other, robot], cells: [cell] };
+    } else {
+      first.set(cell, robot);
     }
-    first.set(cell, robot);
   }
-  return NO_DETAIL;
 }
 
-function detailOfOpening(map, opening) {
-  return detailOfPlaces(map, opening.robots.map((robot) => robot[0]));
+function isNear(map, one, other) {
+  let near = one === other;
+  eachNeighbour(map, one, (beside) => { near = near || beside === other; });
+  return near;
 }
 
-function detailOfStep(map, from, to) {
-  if (to.length !== from.length) return { ...NO_DETAIL, detail: `it has ${to.length} cells for ${from.length} robots` };
-  const places = detailOfPlaces(map, to);
-  if (places !== NO_DETAIL) return places;
+// Of each robot: that it goes too far, or that it exchanges its cell with that of a later one.
+function* faultsOfMoves(map, from, to) {
   const at = new Map();
   from.forEach((cell, robot) => at.set(cell, robot));
   for (let robot = 0; robot < to.length; robot += 1) {
     const [old, cell] = [from[robot], to[robot]];
-    let near = old === cell;
-    eachNeighbour(map, old, (other) => { near = near || other === cell; });
     const cells = [old, cell];
-    if (!near) {
-      const detail = `robot ${robot} goes from cell ${old} to cell ${cell}, which is no neighbour`;
-      return { detail, robots: [robot], cells };
-    }
     const other = at.get(cell);
-    if (other !== undefined && other !== robot && to[other] === old) {
+    if (!isNear(map, old, cell)) {
+      const detail = `robot ${robot} goes from cell ${old} to cell ${cell}, which is no neighbour`;
+      yield { detail, robots: [robot], cells };
+    } else if (other !== undefined && other > robot && old !== cell && to[other] === old) {
       const detail = `robots ${robot} and ${other} exchange the cells ${old} and ${cell}`;
-      return { detail, robots: [robot, other], cells };
+      yield { detail, robots: [robot, other], cells };
     }
   }
-  return NO_DETAIL;
+}
+
+function* faultsOfStep(map, from, to) {
+  if (to.length !== from.length) {
+    yield { ...NO_DETAIL, detail: `it has ${to.length} cells for ${from.length} robots` };
+    return;
+  }
+  yield* faultsOfPlaces(map, to);
+  yield* faultsOfMoves(map, from, to);
+}
+
+function firstOf(faults) {
+  return faults.next().value ?? NO_DETAIL;
+}
+
+function detailOfOpening(map, opening) {
+  return firstOf(faultsOfPlaces(map, opening.robots.map((robot) => robot[0])));
 }
 
 // The first robot of which one list tells and the other does not.
@@ -339,7 +351,7 @@ function firstOdd(due, shown, to, missing, extra) {
 function detailOfTick(replay, trace, entry, rule) {
   const { cells, queues, shut } = replay.state;
   const [, to, arrived, farewells] = entry;
-  if (rule === 4) return detailOfStep(replay.map, cells, to);
+  if (rule === 4) return firstOf(faultsOfStep(replay.map, cells, to));
   const due = [...to.keys()].filter((robot) => queues[robot].length > 0 && queues[robot][0].cell === to[robot]);
   if (rule === 5) {
     const shown = arrived.map((arrival) => arrival[0]);
@@ -373,6 +385,14 @@ function faultText(fault) {
   const where = fault.at === 0 ? 'in its opening' : `at entry ${fault.at}`;
   const detail = fault.detail === '' ? '' : `: ${fault.detail}`;
   return `illegal ${where}: it breaks rule ${fault.rule}, ${RULES[fault.rule] ?? 'unknown'}${detail}`;
+}
+
+// So many conflicts are listed.
+const MOST_CONFLICTS = 20000;
+
+function conflictsText(count) {
+  const listed = count > MOST_CONFLICTS ? `the first ${MOST_CONFLICTS}` : 'each';
+  return `${count} conflict${count === 1 ? '' : 's'} in all: ${listed} among the events, with the tick.`;
 }
 
 // ---- what stands at a frame, and how it changes
@@ -522,6 +542,7 @@ class Replay {
     this.openings = [];
     this.chapters = [];
     this.faults = [];
+    this.conflicts = 0;
     this.state = openedState(traces[0].opening);
     this.build(traces, verdicts);
     this.seek(0);
@@ -535,8 +556,10 @@ class Replay {
       trace.entries.forEach((entry, number) => {
         const fault = verdict !== null && verdict.at === number + 1 ? detailOf(this, trace, entry, verdict) : null;
         if (entry[0] === 'tick') {
+          const conflicts = verdict === null ? [] : [...faultsOfStep(this.map, this.state.cells, entry[1])];
           this.measure(arrived);
           this.addTick(entry);
+          this.addConflicts(conflicts);
           arrived += entry[2].length;
         } else if (entry[0] === 'take') {
           this.push(takeEvent(this.state, entry));
@@ -568,7 +591,19 @@ class Replay {
       waits: Array.from(state.since, (since) => (since === since ? frame - since : null)),
       goals: state.queues.map((queue) => (queue.length > 0 ? queue[0].cell : -1)),
     });
-    if (verdict !== null && verdict.at === 0) this.addFault(trace, verdict, detailOfOpening(this.map, trace.opening));
+    if (verdict !== null && verdict.at === 0) {
+      this.addFault(trace, verdict, detailOfOpening(this.map, trace.opening));
+      this.addConflicts([...faultsOfPlaces(this.map, trace.opening.robots.map((robot) => robot[0]))]);
+    }
+  }
+
+  // Conflicts are looked for in illegal chapters alone.
+  addConflicts(conflicts) {
+    for (const conflict of conflicts) {
+      this.conflicts += 1;
+      if (this.conflicts > MOST_CONFLICTS) continue;
+      this.push({ kind: 'note', frame: this.state.frame, entry: ['conflict', conflict] });
+    }
   }
 
   addFault(trace, verdict, detail) {
@@ -688,6 +723,12 @@ class Replay {
     const frame = clock - this.chapters[0].clock;
     if (frame <= 0n) return 0;
     return frame >= BigInt(this.last) ? this.last : Number(frame);
+  }
+
+  // What is wrong at a frame: what the judge names, and each conflict.
+  faultsAt(frame) {
+    const conflicts = (this.events[frame] ?? []).filter(isConflict).map((event) => event.entry[1]);
+    return [...this.faults.filter((fault) => fault.frame === frame), ...conflicts];
   }
 
   arrivedAt(frame) {
@@ -1250,7 +1291,6 @@ class MapView extends MapGround {
     this.shows = { heat: false, goals: true, lines: true, roomy: false };
     this.picked = null;
     this.follows = false;
-    this.faults = [];
     this.pulse = 0;
     this.other = new Int32Array(replay.robots);
     this.xs = new Float64Array(replay.robots);
@@ -1495,15 +1535,14 @@ class MapView extends MapGround {
     });
   }
 
-  // The cells and robots at fault in the entry that the judge names, if this frame is its.
+  // The cells and robots of what is wrong at this frame.
   drawFaults() {
     const { pen, view, replay, colours } = this;
     pen.strokeStyle = colours.fault;
     pen.fillStyle = colours.fault;
     pen.lineWidth = Math.max(3 * this.ratio, Math.min(view.scale / 8, 8 * this.ratio));
     const half = Math.max(view.scale * (0.5 + 0.12 * this.pulse), 7 * this.ratio);
-    for (const fault of this.faults) {
-      if (fault.frame !== replay.state.frame) continue;
+    for (const fault of replay.faultsAt(replay.state.frame)) {
       for (const cell of [...fault.cells, ...fault.robots.map((robot) => replay.state.cells[robot])]) {
         if (cell === undefined) continue;
         const [x, y] = this.pointOf(cell);
@@ -1669,6 +1708,7 @@ function noteOf(map, entry) {
       return `robot ${entry[1]} is shut${farewell}`;
     }
     case 'reopened': return `robot ${entry[1]} has another queue, wait or state than at the end of the chapter before`;
+    case 'conflict': return entry[1].detail;
     default: return `chapter ${entry[1]} begins`;
   }
 }
@@ -1677,13 +1717,17 @@ function isRefusal({ entry }) {
   return entry[0] === 'take' && entry[3][0] === 'refused';
 }
 
+function isConflict({ entry }) {
+  return entry[0] === 'conflict';
+}
+
 function showEntries(list, replay) {
   const { frame } = replay.state;
   const events = replay.events[frame] ?? [];
   const items = events.slice(0, MOST_ENTRIES).map((event) => {
     const item = document.createElement('li');
     item.textContent = noteOf(replay.map, event.entry);
-    item.classList.toggle('refused', isRefusal(event));
+    item.classList.toggle('refused', isRefusal(event) || isConflict(event));
     return item;
   });
   if (events.length > MOST_ENTRIES || events.length === 0) {
@@ -1794,6 +1838,7 @@ const EVENT_KINDS = {
   refusals: isRefusal,
   arrivals: (event) => event.entry[0] === 'arrival',
   shuts: (event) => event.entry[0] === 'shut' || event.entry[0] === 'farewell',
+  conflicts: isConflict,
   chapters: (event) => event.entry[0] === 'chapter' || event.entry[0] === 'reopened',
 };
 
@@ -1802,11 +1847,15 @@ function clientOf({ entry }) {
   return entry[0] === 'arrival' ? entry[3] : null;
 }
 
-function robotOf(event) {
+function robotsOf(event) {
   const { entry } = event;
-  if (entry[0] === 'take') return entry[2][0] === 'go' ? entry[2][1] : event.robot ?? null;
-  if (entry[0] === 'arrival') return entry[2];
-  return entry[0] === 'chapter' ? null : entry[1];
+  switch (entry[0]) {
+    case 'take': return [entry[2][0] === 'go' ? entry[2][1] : event.robot];
+    case 'arrival': return [entry[2]];
+    case 'conflict': return entry[1].robots;
+    case 'chapter': return [];
+    default: return [entry[1]];
+  }
 }
 
 // The events of a kind, of a client and of a robot, with their frames; null stands for all clients or robots.
@@ -1816,7 +1865,7 @@ function eventsOf(replay, { kind, client, robot }) {
     for (const event of events) {
       if (!EVENT_KINDS[kind](event)) continue;
       if (client !== null && clientOf(event) !== client) continue;
-      if (robot !== null && robotOf(event) !== robot) continue;
+      if (robot !== null && !robotsOf(event).includes(robot)) continue;
       found.push({ frame, event });
     }
   });
@@ -1889,7 +1938,7 @@ class EventList {
     button.type = 'button';
     button.dataset.frame = frame;
     button.textContent = `tick ${this.replay.clockAt(frame)}: ${noteOf(this.replay.map, event.entry)}`;
-    item.classList.toggle('refused', isRefusal(event));
+    item.classList.toggle('refused', isRefusal(event) || isConflict(event));
     item.classList.toggle('now', frame === now);
     item.append(button);
     return item;
@@ -1915,6 +1964,7 @@ function marksOf(replay) {
     for (const event of events) {
       if (event.entry[0] === 'shut') add('shutting', frame);
       else if (isRefusal(event)) add('refusal', frame);
+      else if (isConflict(event)) add('fault', frame);
     }
   });
   for (const fault of replay.faults) add('fault', fault.frame);
@@ -2019,7 +2069,7 @@ class Player {
     const { replay, view } = this.page;
     const { frame } = replay.state;
     view.pulse = 0;
-    if (!replay.faults.some((fault) => fault.frame === frame)) return;
+    if (replay.faultsAt(frame).length === 0) return;
     if (matchMedia('(prefers-reduced-motion: reduce)').matches) return;
     const since = performance.now();
     this.flashing = since;
@@ -2163,7 +2213,6 @@ class Page {
     this.player = new Player(this);
     this.address = new Address(this);
     this.view = new MapView(element('map'), replay);
-    this.view.faults = replay.faults;
     this.waitChart = new Chart(element('wait-chart'), replay.wait, 'longest wait');
     this.charts = [
       new Chart(element('arrivals-chart'), recentArrivals(replay.arrivals), `arrivals in ${WINDOW} ticks`),
@@ -2194,10 +2243,11 @@ class Page {
 
   // The judge's verdict: a line for each chapter that is illegal, with a jump to the tick, and a mark on the slider.
   showVerdict() {
-    const { faults, last } = this.replay;
+    const { faults, conflicts } = this.replay;
     const { dataset } = document.body;
     dataset.verdict = faults.length === 0 ? 'legal' : 'illegal';
     dataset.faultFrames = faults.map((fault) => fault.frame).join(' ');
+    dataset.conflicts = conflicts;
     dataset.faultRobots = faults.map((fault) => fault.robots.join(',')).join(' ');
     element('judged').textContent = faults.length === 0 ? 'judged legal' : '';
     element('verdict').hidden = faults.length === 0;
@@ -2213,6 +2263,7 @@ class Page {
       return line;
     });
     if (faults.length > MOST_BANNERS) lines.push(`${faults.length - MOST_BANNERS} more chapters are illegal.`);
+    if (conflicts > 0) lines.push(conflictsText(conflicts));
     element('verdict').replaceChildren(...lines);
     showMarks(element('marks'), this.replay);
   }

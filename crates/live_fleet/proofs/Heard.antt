@@ -7,7 +7,8 @@ use Rattle.live_parts.specs.Demand.{demand_of}
 use Rattle.live_parts.specs.declared.demand.Demand.{Demand}
 use Rattle.live_fleet.specs.declared.speaker.Speaker.{Speaker}
 use Rattle.live_fleet.specs.Act.{Act}
-use Rattle.live_fleet.specs.Hearing.{HearsLine, Obeys, is_own, numbered}
+use Rattle.live_fleet.specs.Hearing.{HearsLine, Obeys, numbered}
+use Rattle.live_fleet.specs.Own.{is_own}
 use Rattle.live_fleet.specs.Party.{Stage, with_speaker}
 use Rattle.std.proofs.lemmas.Option.{slice_get_read}
 
@@ -32,6 +33,17 @@ pub own-yes : {T E : Type 0} (r : Result T E) (who : List Speaker) (k client cou
     → OnOk r ((sp : Speaker) → slice_get who k ≡ Some sp → (acts : List Act) × MatchBool (is_own sp.clients count client) (P sp acts) (Q sp acts))
 own-yes (Ok v) who k client count own P Q some is it = λ sp there. let (acts, p) = it sp there in (acts, subst (λ (b : Bool). MatchBool b (P sp acts) (Q sp acts)) (sym some ∙ is sp there) p)
 own-yes (Err e) who k client count own P Q some is it = tt
+
+-- the same of another test
+pub if-no : {T E : Type 0} (r : Result T E) (who : List Speaker) (k : ℕ) (test is : Bool) (P Q : Speaker → List Act → Type 0) → test ≡ false → test ≡ is → OnOk r ((sp : Speaker) → slice_get who k ≡ Some sp → (acts : List Act) × Q sp acts)
+    → OnOk r ((sp : Speaker) → slice_get who k ≡ Some sp → (acts : List Act) × MatchBool is (P sp acts) (Q sp acts))
+if-no (Ok v) who k test is P Q none same it = λ sp there. let (acts, q) = it sp there in (acts, subst (λ (b : Bool). MatchBool b (P sp acts) (Q sp acts)) (sym none ∙ same) q)
+if-no (Err e) who k test is P Q none same it = tt
+
+pub if-yes : {T E : Type 0} (r : Result T E) (who : List Speaker) (k : ℕ) (test is : Bool) (P Q : Speaker → List Act → Type 0) → test ≡ true → test ≡ is → OnOk r ((sp : Speaker) → slice_get who k ≡ Some sp → (acts : List Act) × P sp acts)
+    → OnOk r ((sp : Speaker) → slice_get who k ≡ Some sp → (acts : List Act) × MatchBool is (P sp acts) (Q sp acts))
+if-yes (Ok v) who k test is P Q some same it = λ sp there. let (acts, p) = it sp there in (acts, subst (λ (b : Bool). MatchBool b (P sp acts) (Q sp acts)) (sym some ∙ same) p)
+if-yes (Err e) who k test is P Q some same it = tt
 
 -- what a line asks is done
 pub obeys-as : {T E : Type 0} (r : Result T E) (k : ℕ) (line : Line) (asked demand : Demand) (s t : Stage) → asked ≡ demand → OnOk r ((sp : Speaker) → slice_get s.speakers k ≡ Some sp → (acts : List Act) × Obeys k sp line demand s acts t)

@@ -11,6 +11,7 @@ use Rattle.fleet_talk.specs.Ask.{Line}
 use Rattle.fleet_world.specs.declared.reply.Reply.{Reply}
 use Rattle.live_parts.specs.declared.demand.Demand.{Demand}
 use Rattle.live_parts.specs.declared.demand.Demand.TheVariants as demand
+use Rattle.live_parts.specs.declared.demand.Numbered.{Numbered}
 use Rattle.live_parts.specs.declared.demand.Wanted.{Wanted}
 use Rattle.live_parts.specs.declared.demand.Wanted.TheVariants as wanted
 use Rattle.live_fleet.specs.declared.rest.Rest.{Rest}
@@ -22,7 +23,9 @@ use Rattle.live_fleet.specs.Asking.{Grants, ShutsOne, TurnsChapter}
 use Rattle.live_fleet.specs.Asking as asking
 use Rattle.live_fleet.specs.Does.{Does, HandsDue, PlaysUnread, ShowsTurn}
 use Rattle.live_fleet.specs.Ending.{Ends, TakesLeft, at_end}
-use Rattle.live_fleet.specs.Hearing.{IfOwn, Obeys, Opens, is_own}
+use Rattle.live_fleet.specs.Hearing.{Obeys, Opens}
+use Rattle.live_fleet.specs.Numbered.{PostsAs, PostsLetIn, is_let_in, next_order}
+use Rattle.live_fleet.specs.Own.{IfOwn, is_own}
 use Rattle.live_fleet.specs.Party.{Heard, Stage, with_at, with_rest, with_speaker, resting}
 use Rattle.live_fleet.specs.Party as heard
 use Rattle.live_fleet.specs.Posting.{Posts, SettlesAll, SettlesIf}
@@ -169,13 +172,31 @@ if_own : (own : Bool) (P : Type 0) (k : ℕ) (sp : Speaker) (mark : Option (List
 if_own true P k sp mark client s acts t keeps is = keeps is
 if_own false P k sp mark client s acts t keeps answers = answers-keeps k sp _ s acts t answers
 
+let_in : (is : Bool) (P : Type 0) (k : ℕ) (sp : Speaker) (text : List ℕ) (s : Stage) (acts : List Act) (t : Stage) → (P → Keeps s acts t) → MatchBool is P (Answers k sp text s acts t) → Keeps s acts t
+let_in true P k sp text s acts t keeps is = keeps is
+let_in false P k sp text s acts t keeps answers = answers-keeps k sp text s acts t answers
+
+posts-as-keeps : (k : ℕ) (sp : Speaker) (mark : Option (List ℕ)) (post : Numbered) (s : Stage) (acts : List Act) (t : Stage) → PostsAs k sp mark post s acts t → Keeps s acts t
+posts-as-keeps k sp mark post s acts t is =
+    let_in (next_order s.notes post.client == post.number) (PostsLetIn k sp mark post.client post.order s acts t) k sp _ s acts t
+    (λ posts. let_in (is_let_in s.door.refused post.order) (Posts k sp mark post.client post.order s acts t) k sp _ s acts t (posts-keeps k sp mark post.client post.order s acts t) posts) is
+
+-- a conversation is left with something to say, and nothing is done
+keeps_left : (s t : Stage) (acts : List Act) (k : ℕ) (sp : Speaker) (left : Rest) → acts ≡ [] → t ≡ with_rest s k sp left → Keeps s acts t
+keeps_left s t acts k sp left none same =
+    let at : t.at ≡ s.at = ap (λ (x : Stage). x.at) same in
+    keeps_rest s t acts k (resting sp left) (none-went s.at t.at acts none at) (same ∙ ap (λ (a : At). with_speaker (with_at s a) k (resting sp left)) (sym at))
+
 obeys-keeps : (k : ℕ) (sp : Speaker) (line : Line) (asked : Demand) (s : Stage) (acts : List Act) (t : Stage) → Obeys k sp line asked s acts t → Keeps s acts t
 obeys-keeps k sp line demand.Nothing s acts t (none, same) = keeps_none s t acts none same
 obeys-keeps k sp line (demand.Post client order) s acts t hears = if_own (is_own sp.clients s.clients client) _ k sp line.mark client s acts t (λ posts. posts-keeps k sp line.mark client order s acts t posts) hears
+obeys-keeps k sp line (demand.PostAs post) s acts t hears = if_own (is_own sp.clients s.clients post.client) _ k sp line.mark post.client s acts t (λ posts. posts-as-keeps k sp line.mark post s acts t posts) hears
 obeys-keeps k sp line (demand.NoRoom client) s acts t hears = if_own (is_own sp.clients s.clients client) _ k sp line.mark client s acts t (λ answers. answers-keeps k sp _ s acts t answers) hears
 obeys-keeps k sp line (demand.Open client) s acts t hears = if_own (is_own sp.clients s.clients client) _ k sp line.mark client s acts t (λ opens. opens-keeps k sp line.mark client s acts t opens) hears
 obeys-keeps k sp line (demand.Session client) s acts t hears = if_own (is_own sp.clients s.clients client) _ k sp line.mark client s acts t (λ answers. answers-keeps k sp _ s acts t answers) hears
 obeys-keeps k sp line (demand.Since client seq) s acts t hears = if_own (is_own sp.clients s.clients client) _ k sp line.mark client s acts t (λ answers. answers-keeps k sp _ s acts t answers) hears
+obeys-keeps k sp line demand.Hello s acts t answers = answers-keeps k sp _ s acts t answers
+obeys-keeps k sp line demand.Robots s acts t (left, robots, none, same) = keeps_left s t acts k sp left none same
 obeys-keeps k sp line (demand.Ask asked) s acts t grants = grants-keeps k sp line.mark asked s acts t grants
 obeys-keeps k sp line (demand.Watch on) s acts t answers =
     keeps_from s t acts k (record sp { watching = on }) (answers-keeps k (record sp { watching = on }) _ (with_speaker s k (record sp { watching = on })) acts t answers)

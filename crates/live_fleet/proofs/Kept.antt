@@ -102,6 +102,19 @@ numbered_parts (x ∷ xs) ys n seqs =
     let e : (n + 1) + length xs ≡ n + length (x ∷ xs) = omega arith in
     (ap (λ (m : ℕ). last_seq m xs) first ∙ (last ∙ e), subst (λ (m : ℕ). map seq_of ys ≡ numbers_behind m (length ys)) e others)
 
+-- what was told, and what waits now, goes on from what was told before
+pub numbered-on : (c : ℕ) (f g : FleetView) (now fresh : List Notice) → c < clients f.talk.world.history → now ++ left_of g.talk c ≡ left_of f.talk c ++ fresh → Made c f.talk.world.history g.talk.world.history fresh → AreNumberedOn c f
+    → map seq_of (now ++ left_of g.talk c) ≡ numbers_behind (recall_of f.recalls c).told (length (now ++ left_of g.talk c))
+numbered-on c f g now fresh inside once made before =
+    let size = length-append (left_of f.talk c) fresh in
+    let both = ap length once in
+    let all = before.all in
+    let joined : map seq_of (left_of f.talk c ++ fresh) ≡ numbers_behind (recall_of f.recalls c).told (length (left_of f.talk c) + length fresh) =
+    map-append seq_of (left_of f.talk c) fresh
+    ∙ numbered-append (map seq_of (left_of f.talk c)) (map seq_of fresh) (recall_of f.recalls c).told (noticed_count f.talk.world.history c) (length (left_of f.talk c)) (length fresh) before.seqs (sym all) (made.seqs inside) in
+    let many : length (left_of f.talk c) + length fresh ≡ length (now ++ left_of g.talk c) = sym size ∙ sym both in
+    ap (map seq_of) once ∙ (joined ∙ ap (λ (n : ℕ). numbers_behind (recall_of f.recalls c).told n) many)
+
 pub counted-on : (c : ℕ) (f g : FleetView) (now fresh : List Notice) → c < clients f.talk.world.history → now ++ left_of g.talk c ≡ left_of f.talk c ++ fresh → Made c f.talk.world.history g.talk.world.history fresh → AreKept c f.recalls now g.recalls → AreNumberedOn c f
     → AreNumberedOn c g × ((recall_of g.recalls c).told ≡ (recall_of f.recalls c).told + length now)
 counted-on c f g now fresh inside once made keeps before =
@@ -110,13 +123,7 @@ counted-on c f g now fresh inside once made keeps before =
     let both = ap length once in
     let count = made.count inside in
     let all = before.all in
-    let joined : map seq_of (left_of f.talk c ++ fresh) ≡ numbers_behind (recall_of f.recalls c).told (length (left_of f.talk c) + length fresh) =
-    map-append seq_of (left_of f.talk c) fresh
-    ∙ numbered-append (map seq_of (left_of f.talk c)) (map seq_of fresh) (recall_of f.recalls c).told (noticed_count f.talk.world.history c) (length (left_of f.talk c)) (length fresh) before.seqs (sym all) (made.seqs inside) in
-    let many : length (left_of f.talk c) + length fresh ≡ length (now ++ left_of g.talk c) = sym size ∙ sym both in
-    let seqs : map seq_of (now ++ left_of g.talk c) ≡ numbers_behind (recall_of f.recalls c).told (length (now ++ left_of g.talk c)) =
-    ap (map seq_of) once ∙ (joined ∙ ap (λ (n : ℕ). numbers_behind (recall_of f.recalls c).told n) many) in
-    let (last, others) = numbered_parts now (left_of g.talk c) (recall_of f.recalls c).told seqs in
+    let (last, others) = numbered_parts now (left_of g.talk c) (recall_of f.recalls c).told (numbered-on c f g now fresh inside once made before) in
     let grown : (recall_of g.recalls c).told ≡ (recall_of f.recalls c).told + length now = keeps.count ∙ last in (
       record {
         seqs = others ∙ ap (λ (n : ℕ). numbers_behind n (length (left_of g.talk c))) (sym grown);

@@ -26,3 +26,5 @@ pub mod Once
 pub mod Lists
 pub mod Heard
 pub mod Again
+pub mod Rolls
+pub mod InTime

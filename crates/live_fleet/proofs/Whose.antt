@@ -10,6 +10,7 @@ use Rattle.fleet_talk.specs.Ask.{Line}
 use Rattle.fleet_world.specs.declared.reply.Reply.{Reply}
 use Rattle.live_parts.specs.declared.demand.Demand.{Demand}
 use Rattle.live_parts.specs.declared.demand.Demand.TheVariants as demand
+use Rattle.live_parts.specs.declared.demand.Numbered.{Numbered}
 use Rattle.live_parts.specs.declared.demand.Wanted.{Wanted}
 use Rattle.live_parts.specs.declared.demand.Wanted.TheVariants as wanted
 use Rattle.live_fleet.specs.declared.rest.Rest.{Rest}
@@ -22,8 +23,10 @@ use Rattle.live_fleet.specs.Asking.{Grants, ShutsOne, TurnsChapter}
 use Rattle.live_fleet.specs.Asking as asking
 use Rattle.live_fleet.specs.Does.{Does, HandsDue, ShowsTurn}
 use Rattle.live_fleet.specs.Ending.{Ends, IsClosing, TakesLeft, at_end}
-use Rattle.live_fleet.specs.Hearing.{IfOwn, Obeys, Opens, is_own}
+use Rattle.live_fleet.specs.Hearing.{Obeys, Opens}
 use Rattle.live_fleet.specs.Law.{clients_in}
+use Rattle.live_fleet.specs.Numbered.{PostsAs, PostsLetIn, is_let_in, next_order}
+use Rattle.live_fleet.specs.Own.{IfOwn, is_own}
 use Rattle.live_fleet.specs.Party.{Heard, Stage, resting, with_at, with_rest, with_speaker}
 use Rattle.live_fleet.specs.Party as heard
 use Rattle.live_fleet.specs.Posting.{Posts, SettlesAll, SettlesIf}
@@ -133,10 +136,23 @@ if_own_right : (whose : List Clients) (own_client : Bool) (P : Type 0) (k : ℕ)
 if_own_right whose true P k sp mark client s acts t at own rights is = rights is
 if_own_right whose false P k sp mark client s acts t at own rights answers = answers_right whose k sp _ s acts t at own answers
 
+let_in_right : (whose : List Clients) (is : Bool) (P : Type 0) (k : ℕ) (sp : Speaker) (text : List ℕ) (s : Stage) (acts : List Act) (t : Stage) → clients_in s.speakers ≡ whose → slice_get whose k ≡ Some sp.clients
+    → (P → Rights whose acts t) → MatchBool is P (Answers k sp text s acts t) → Rights whose acts t
+let_in_right whose true P k sp text s acts t at own rights is = rights is
+let_in_right whose false P k sp text s acts t at own rights answers = answers_right whose k sp text s acts t at own answers
+
+posts_as_right : (whose : List Clients) (k : ℕ) (sp : Speaker) (mark : Option (List ℕ)) (post : Numbered) (s : Stage) (acts : List Act) (t : Stage) → clients_in s.speakers ≡ whose → slice_get whose k ≡ Some sp.clients → PostsAs k sp mark post s acts t
+    → Rights whose acts t
+posts_as_right whose k sp mark post s acts t at own is =
+    let_in_right whose (next_order s.notes post.client == post.number) (PostsLetIn k sp mark post.client post.order s acts t) k sp _ s acts t at own
+    (λ posts. let_in_right whose (is_let_in s.door.refused post.order) (Posts k sp mark post.client post.order s acts t) k sp _ s acts t at own (posts_right whose k sp mark post.client post.order s acts t at own) posts) is
+
 obeys_right : (whose : List Clients) (k : ℕ) (sp : Speaker) (line : Line) (asked : Demand) (s : Stage) (acts : List Act) (t : Stage) → clients_in s.speakers ≡ whose → slice_get whose k ≡ Some sp.clients → Obeys k sp line asked s acts t → Rights whose acts t
 obeys_right whose k sp line demand.Nothing s acts t at own (none, same) = rights_none whose s t acts at none same
 obeys_right whose k sp line (demand.Post client order) s acts t at own hears =
     if_own_right whose (is_own sp.clients s.clients client) _ k sp line.mark client s acts t at own (λ posts. posts_right whose k sp line.mark client order s acts t at own posts) hears
+obeys_right whose k sp line (demand.PostAs post) s acts t at own hears =
+    if_own_right whose (is_own sp.clients s.clients post.client) _ k sp line.mark post.client s acts t at own (λ posts. posts_as_right whose k sp line.mark post s acts t at own posts) hears
 obeys_right whose k sp line (demand.NoRoom client) s acts t at own hears =
     if_own_right whose (is_own sp.clients s.clients client) _ k sp line.mark client s acts t at own (λ answers. answers_right whose k sp _ s acts t at own answers) hears
 obeys_right whose k sp line (demand.Open client) s acts t at own hears =
@@ -145,6 +161,9 @@ obeys_right whose k sp line (demand.Session client) s acts t at own hears =
     if_own_right whose (is_own sp.clients s.clients client) _ k sp line.mark client s acts t at own (λ answers. answers_right whose k sp _ s acts t at own answers) hears
 obeys_right whose k sp line (demand.Since client seq) s acts t at own hears =
     if_own_right whose (is_own sp.clients s.clients client) _ k sp line.mark client s acts t at own (λ answers. answers_right whose k sp _ s acts t at own answers) hears
+obeys_right whose k sp line demand.Hello s acts t at own answers = answers_right whose k sp _ s acts t at own answers
+obeys_right whose k sp line demand.Robots s acts t at own (left, robots, none, same) =
+    record { right = right-none whose acts none; same = ap (λ (x : Stage). clients_in x.speakers) same ∙ kept_set whose s.speakers k (resting sp left) at own }
 obeys_right whose k sp line (demand.Ask asked) s acts t at own grants = grants_right whose k sp line.mark asked s acts t at own grants
 obeys_right whose k sp line (demand.Watch on) s acts t at own answers =
     answers_right whose k (record sp { watching = on }) _ (with_speaker s k (record sp { watching = on })) acts t (kept_set whose s.speakers k (record sp { watching = on }) at own) own answers

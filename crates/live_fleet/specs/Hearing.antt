@@ -1,11 +1,10 @@
 -- What is done at a line.
-use Rattle.std.specs.Prelude.{◌≡◌, ℕ, ◌+◌, Bool, ◌&&◌, nat_lt, not, List, [], Option, Some, MatchBool, slice_get, if◌then◌else◌}
+use Rattle.std.specs.Prelude.{◌≡◌, ℕ, ◌+◌, nat_lt, List, [], Option, Some, slice_get, if◌then◌else◌}
 use Rattle.std.specs.declared.alloc.Global.{Global}
 use Rattle.fleet_book.specs.declared.order.Order.{Order}
 use Rattle.fleet_core.specs.OpenErrands.{open_errands}
 use Rattle.fleet_history.specs.History.{History}
 use Rattle.fleet_text.specs.Answers.{bad_line, no_room_line, watch_line}
-use Rattle.fleet_text.specs.Output.{no_client_line}
 use Rattle.fleet_talk.specs.Ask.{Line}
 use Rattle.fleet_talk.specs.Door.{line_let_in}
 use Rattle.fleet_talk.specs.Says.{marked}
@@ -14,25 +13,30 @@ use Rattle.live_parts.specs.declared.demand.Demand.{Demand}
 use Rattle.live_parts.specs.declared.demand.Demand.TheVariants as demand
 use Rattle.live_fleet.specs.declared.rest.Rest.{Rest}
 use Rattle.live_fleet.specs.declared.rest.Rest.TheVariants as rest
-use Rattle.live_fleet.specs.declared.speaker.Clients.{Clients}
+use Rattle.live_fleet.specs.declared.rest.Rows.{Rows}
+use Rattle.live_fleet.specs.declared.rest.Rows.TheVariants.{Errands}
 use Rattle.live_fleet.specs.declared.speaker.Speaker.{Speaker}
 use Rattle.live_fleet.specs.Act.{Act}
 use Rattle.live_fleet.specs.Answering.{Answers, mark_kept}
 use Rattle.live_fleet.specs.Asking.{Grants}
 use Rattle.live_fleet.specs.Ending.{Ends}
+use Rattle.live_fleet.specs.Hello.{HearsHello}
+use Rattle.live_fleet.specs.Numbered.{HearsPostAs}
+use Rattle.live_fleet.specs.Own.{IfOwn, is_own}
 use Rattle.live_fleet.specs.Party.{Stage, with_rest, with_speaker}
 use Rattle.live_fleet.specs.Posting.{Posts, SettlesAll}
+use Rattle.live_fleet.specs.Robots.{HearsRobots}
 use Rattle.live_fleet.specs.Sessions.{mark_len, session_line, since_text, standing_at}
-
--- whether a conversation that speaks for these speaks for a client, of those that there are
-abbrev pub is_own : Clients → ℕ → ℕ → Bool
-is_own who count client = not (nat_lt client who.first) && nat_lt client who.end && nat_lt client count
 
 -- ---- the open errands of a client
 
+abbrev pub AreErrands : ℕ → History Global → Rows → Type 0
+AreErrands client h (Errands c errands) = (c ≡ client) × (errands.items ≡ open_errands h client)
+AreErrands client h _ = ⊥
+
 -- all of these are to be told, from the first on
 abbrev pub IsListing : Option (List ℕ) → ℕ → History Global → Rest → Type 0
-IsListing shown client h (rest.Listing list) = (mark_kept list.mark ≡ shown) × (list.client ≡ client) × (list.errands.items ≡ open_errands h client) × (list.listed ≡ 0)
+IsListing shown client h (rest.Listing list) = (mark_kept list.mark ≡ shown) × AreErrands client h list.rows × (list.listed ≡ 0)
 IsListing shown client h _ = ⊥
 
 -- what was posted is judged, and then the open errands are to be told
@@ -44,10 +48,6 @@ pub record Opens (k : ℕ) (sp : Speaker) (mark : Option (List ℕ)) (client : �
   pub is : t ≡ with_rest mid k sp left
 
 -- ---- a line
-
--- what is done for a client for whom the conversation speaks; of another the answer is that there is no such client
-abbrev pub IfOwn : Bool → Type 0 → ℕ → Speaker → Option (List ℕ) → ℕ → Stage → List Act → Stage → Type 0
-IfOwn own P k sp mark client s acts t = MatchBool own P (Answers k sp (marked mark (no_client_line client)) s acts t)
 
 abbrev pub HearsPost : ℕ → Speaker → Option (List ℕ) → ℕ → Order → Stage → List Act → Stage → Type 0
 HearsPost k sp mark client order s acts t = IfOwn (is_own sp.clients s.clients client) (Posts k sp mark client order s acts t) k sp mark client s acts t
@@ -70,10 +70,13 @@ HearsSince k sp mark client seq s acts t = IfOwn (is_own sp.clients s.clients cl
 abbrev pub Obeys : ℕ → Speaker → Line → Demand → Stage → List Act → Stage → Type 0
 Obeys k sp line demand.Nothing s acts t = (acts ≡ []) × (t ≡ s)
 Obeys k sp line (demand.Post client order) s acts t = HearsPost k sp line.mark client order s acts t
+Obeys k sp line (demand.PostAs post) s acts t = HearsPostAs k sp line.mark post s acts t
 Obeys k sp line (demand.NoRoom client) s acts t = HearsNoRoom k sp line.mark client s acts t
 Obeys k sp line (demand.Open client) s acts t = HearsOpen k sp line.mark client s acts t
 Obeys k sp line (demand.Session client) s acts t = HearsSession k sp line.mark client s acts t
 Obeys k sp line (demand.Since client seq) s acts t = HearsSince k sp line.mark client seq s acts t
+Obeys k sp line demand.Hello s acts t = HearsHello k sp line.mark s acts t
+Obeys k sp line demand.Robots s acts t = HearsRobots k sp line.mark s acts t
 Obeys k sp line (demand.Ask wanted) s acts t = Grants k sp line.mark wanted s acts t
 Obeys k sp line (demand.Watch on) s acts t = Answers k (record sp { watching = on }) (marked line.mark (watch_line on)) (with_speaker s k (record sp { watching = on })) acts t
 Obeys k sp line demand.Quit s acts t = Ends s acts t

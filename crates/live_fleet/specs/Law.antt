@@ -10,7 +10,7 @@ use Rattle.fleet_bound.specs.Bound.{KeepsBound, WaitsAreBounded}
 use Rattle.fleet_bound.specs.Roomy.{AdvancesIfRoomy, AreRoomy}
 use Rattle.fleet_core.specs.Core.{ServesInTurns}
 use Rattle.turns_law.specs.Turns.{Turns}
-use Rattle.fleet_history.specs.History.{History, clients, start}
+use Rattle.fleet_history.specs.History.{History, client_at, clients, start}
 use Rattle.fleet_history.specs.Laws.{AcceptsNoneClosed, ArrivalsRise, ArrivesInOrder, HasNoConflict}
 use Rattle.fleet_history.specs.Notices.{noticed_count, notices, seq_of}
 use Rattle.fleet_history.specs.Numbering.{AreNumbered, numbers_behind}
@@ -19,7 +19,7 @@ use Rattle.fleet_talk.specs.Chapters.{AreTurned, ChapterView, beginning}
 use Rattle.fleet_talk.specs.Says.{marked}
 use Rattle.fleet_text.specs.Answers.{open_text}
 use Rattle.fleet_world.specs.Talk.{Talk, mailbox, waiting}
-use Rattle.live_parts.specs.Recalls.{Recalls, last_of, recall_of}
+use Rattle.live_parts.specs.Recalls.{Recall, Recalls, first_of, last_of, recall_of}
 use Rattle.live_fleet.specs.declared.rest.Rest.TheVariants.{Ended, Ending}
 use Rattle.live_fleet.specs.declared.speaker.Clients.{Clients}
 use Rattle.live_fleet.specs.declared.speaker.Speaker.{Speaker}
@@ -141,6 +141,20 @@ EachIsCounted =
 -- so it is at the beginning, where nothing waits
 abbrev pub EachBeginsCounted : Type 0
 EachBeginsCounted = (f : FleetView) (r : Recalls) (c : ℕ) → f.talk.world.history.entries ≡ [] → left_of f.talk c ≡ [] → c < clients f.talk.world.history → AreBegun f.talk.world.history r f.recalls → AreNumberedOn c f
+
+-- the numbers of the notices that can be told again are at most that of the last one that was told
+abbrev pub AreInTime : Recall → Type 0
+AreInTime r = AllByRecursion (λ n. seq_of n ≤ r.told) r.notices
+
+-- It stays so, and then the first of them is at most the one after all that was told
+abbrev pub EachFirstIsInTime : Type 0
+EachFirstIsInTime =
+    (s t : Stage) (events : List Heard) (acts : List Act) → Plays s events acts t → (c : ℕ) → IsKnown s.at.fleet.talk c → IsRecalled s.at.fleet.recalls c → c < clients s.at.fleet.talk.world.history → AreNumberedOn c s.at.fleet
+    → AreInTime (recall_of s.at.fleet.recalls c) → AreInTime (recall_of t.at.fleet.recalls c) × (first_of (recall_of t.at.fleet.recalls c) ≤ (recall_of t.at.fleet.recalls c).told + 1)
+
+-- so it is at the beginning, if what is kept has no number above those that were noticed
+abbrev pub EachBeginsInTime : Type 0
+EachBeginsInTime = (h : History Global) (r t : Recalls) (c : ℕ) → c < clients h → AreBegun h r t → AllByRecursion (λ n. seq_of n ≤ (client_at h c).noticed) (recall_of r c).notices → AreInTime (recall_of t c)
 
 -- ---- turns
 

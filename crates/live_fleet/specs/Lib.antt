@@ -14,6 +14,11 @@ pub mod Ending
 pub mod Posting
 pub mod Asking
 pub mod Sessions
+pub mod Own
+pub mod Numbered
+pub mod Hello
+pub mod RobotLines
+pub mod Robots
 pub mod Hearing
 pub mod Resting
 pub mod Does

@@ -10,12 +10,15 @@ use Rattle.fleet_world.specs.declared.reply.Reply.{Reply}
 use Rattle.live_fleet.specs.declared.rest.Listing.{Listing}
 use Rattle.live_fleet.specs.declared.rest.Rest.{Rest}
 use Rattle.live_fleet.specs.declared.rest.Rest.TheVariants as rest
+use Rattle.live_fleet.specs.declared.rest.Rows.{Rows}
+use Rattle.live_fleet.specs.declared.rest.Rows.TheVariants.{Errands, Robots}
 use Rattle.live_fleet.specs.declared.speaker.Speaker.{Speaker}
 use Rattle.live_fleet.specs.Act.{Act}
 use Rattle.live_fleet.specs.Answering.{Answers, AnswersIn, mark_kept}
 use Rattle.live_fleet.specs.Out.{Out, IsFull, text_at}
 use Rattle.live_fleet.specs.Ending.{at_end}
 use Rattle.live_fleet.specs.Party.{Stage, with_at, with_rest, with_speaker}
+use Rattle.live_fleet.specs.RobotLines.{robot_listed}
 use Rattle.live_fleet.specs.Telling.{TellsClients, TellsWhole}
 use Rattle.live_fleet.specs.Turning.{SaysOrNot, SaysThat, Shows, Turns, is_ticked, tick_answer}
 use Rattle.live_fleet.specs.Went.{At, Each}
@@ -65,14 +68,23 @@ listed_line client errands None = open_end client (length errands)
 abbrev pub line_listed : ℕ → List OpenErrand → ℕ → List ℕ
 line_listed client errands listed = listed_line client errands (slice_get errands listed)
 
+-- the line after the first n: a row's, or how many they are
+abbrev pub row_line : Rows → ℕ → List ℕ
+row_line (Errands client errands) listed = line_listed client errands.items listed
+row_line (Robots robots) listed = robot_listed robots.items listed
+
+abbrev pub count_in : Rows → ℕ
+count_in (Errands client errands) = length errands.items
+count_in (Robots robots) = length robots.items
+
 -- under its mark
 abbrev pub line_of : Listing → List ℕ
-line_of list = marked (mark_kept list.mark) (line_listed list.client list.errands.items list.listed)
+line_of list = marked (mark_kept list.mark) (row_line list.rows list.listed)
 
 -- what is left of a list after its next line, if that was said
 abbrev pub ListsThen : Listing → Rest → Bool → Type 0
 ListsThen list left false = left ≡ rest.Listing list
-ListsThen list left true = MatchBool (nat_lt list.listed (length list.errands.items)) (left ≡ rest.Listing (record list { listed = list.listed + 1 })) (left ≡ rest.Nothing)
+ListsThen list left true = MatchBool (nat_lt list.listed (count_in list.rows)) (left ≡ rest.Listing (record list { listed = list.listed + 1 })) (left ≡ rest.Nothing)
 
 -- ---- the end
 

@@ -10,7 +10,8 @@ ghost use Rattle.live_parts.specs.declared.demand.Demand.TheVariants.{Bad, Watch
 ghost use Rattle.live_fleet.specs.declared.speaker.Speaker.{Speaker};
 ghost use Rattle.live_fleet.specs.Act.{Act};
 ghost use Rattle.live_fleet.specs.Answering.{Answers};
-ghost use Rattle.live_fleet.specs.Hearing.{HearsLine, HearsNoRoom, HearsOpen, HearsPost, Obeys, Opens, is_own, next_number, numbered};
+ghost use Rattle.live_fleet.specs.Hearing.{HearsLine, HearsNoRoom, HearsOpen, HearsPost, Obeys, Opens, next_number, numbered};
+ghost use Rattle.live_fleet.specs.Own.{is_own};
 ghost use Rattle.live_fleet.specs.Party.{IsDoorOf, IsWhole, stage_of};
 ghost use Rattle.live_fleet.specs.Posting.{Posts, SettlesAll};
 
@@ -96,7 +97,7 @@ impl Party {
     }
 
     /// Posts an order of a client, answers, and judges it.
-    fn post<R: Alloc<A = Global>>(
+    pub(crate) fn post<R: Alloc<A = Global>>(
         &mut self,
         rt: &R,
         out: &mut Outboxes,
@@ -258,10 +259,13 @@ impl Party {
         match demand {
             Demand::Nothing => Ok(()),
             Demand::Post(client, order) => self.hear_post(rt, out, place, client, order),
+            Demand::PostAs(post) => self.hear_post_as(rt, out, place, post),
             Demand::NoRoom(client) => self.hear_no_room(rt.alloc(), out, place, client),
             Demand::Open(client) => self.hear_open(rt, out, place, client),
             Demand::Session(client) => self.hear_session(rt.alloc(), out, place, client),
             Demand::Since(client, seq) => self.hear_since(rt.alloc(), out, place, client, seq),
+            Demand::Hello => self.hear_hello(rt.alloc(), out, place),
+            Demand::Robots => self.hear_robots(rt.alloc(), out, place),
             Demand::Ask(wanted) => self.ask(rt, out, place, wanted),
             Demand::Watch(on) => self.hear_watch(rt.alloc(), out, place, on),
             Demand::Quit => self.end(rt, out),

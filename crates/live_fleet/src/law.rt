@@ -1,6 +1,6 @@
 //! What holds of a fleet of many conversations, whatever it hears. The body of a law is empty: its contract is the law.
 
-ghost use Rattle.live_fleet.specs.Law.{EachBeginsCounted, EachEndIsLast, EachFollows, EachGoesOn, EachIsCounted, EachIsKept, EachIsSafe, EachIsToldOnce, EachIsToldRight, EachListIsWhole, EachTurnIsShownLast};
+ghost use Rattle.live_fleet.specs.Law.{EachBeginsCounted, EachBeginsInTime, EachEndIsLast, EachFirstIsInTime, EachFollows, EachGoesOn, EachIsCounted, EachIsKept, EachIsSafe, EachIsToldOnce, EachIsToldRight, EachListIsWhole, EachTurnIsShownLast};
 
 /// Whatever a fleet hears, and whatever readers take in between, what it does is a run of the core, and the status is
 /// what that run says. Where readers take nothing, what each conversation is told and the chapters that are handed out
@@ -41,6 +41,12 @@ pub fn notices_are_kept()
 pub fn notices_are_counted()
     ensures counted { EachIsCounted }
     ensures begins { EachBeginsCounted }
+{}
+
+/// The first notice that can be told a client again is at most the one after all that it was told.
+pub fn first_notices_are_in_time()
+    ensures stays { EachFirstIsInTime }
+    ensures begins { EachBeginsInTime }
 {}
 
 /// The open errands of a client that are told line by line are the text that `fleet talk` says at once.

@@ -7,11 +7,13 @@ mod asking;
 mod cue;
 mod ending;
 mod hearing;
+mod hello;
 mod law;
 mod length;
 mod line;
 mod listing;
 mod notes;
+mod numbered;
 mod onward;
 mod open_fleet;
 mod outboxes;
@@ -19,6 +21,8 @@ mod party;
 mod posting;
 mod rest;
 mod resting;
+mod robots;
+mod roll;
 mod sessions;
 mod speaker;
 mod stepping;
@@ -28,13 +32,15 @@ mod turning;
 
 pub use cue::Cue;
 pub use law::{
-    ends_are_told_last, histories_are_safe, histories_follow_one_another, lists_are_told_whole,
-    notices_are_counted, notices_are_kept, notices_are_told_once, notices_are_told_to_their_own,
-    turns_are_shown_last, whatever_it_hears_is_a_run,
+    ends_are_told_last, first_notices_are_in_time, histories_are_safe,
+    histories_follow_one_another, lists_are_told_whole, notices_are_counted, notices_are_kept,
+    notices_are_told_once, notices_are_told_to_their_own, turns_are_shown_last,
+    whatever_it_hears_is_a_run,
 };
 pub use notes::Note;
 pub use open_fleet::OpenFleet;
 pub use outboxes::{MOST_TEXT, Outboxes};
 pub use party::Party;
-pub use rest::{Listing, Rest};
+pub use rest::{Listing, Rest, Rows};
+pub use robots::{Duty, RobotRow};
 pub use speaker::{Clients, Speaker};

@@ -1,13 +1,14 @@
-//! The open errands of a client, line by line.
+//! Lists, line by line.
 
 ghost use Rattle.std.specs.Prelude.{◌≡◌, ◌≤◌, IfOk, string_bytes};
 ghost use Rattle.fleet_text.specs.Answers.{open_end, open_line};
 ghost use Rattle.fleet_talk.specs.Said.{under};
 ghost use Rattle.live_fleet.specs.Hearing.{IsListing};
-ghost use Rattle.live_fleet.specs.Resting.{line_listed};
+ghost use Rattle.live_fleet.specs.Resting.{line_listed, row_line};
 
 use crate::answering::kept_mark;
-use crate::rest::{Listing, Rest};
+use crate::rest::{Listing, Rest, Rows};
+use crate::robots::next_robot;
 use fleet_core::OpenErrand;
 use fleet_world::Session;
 use std::alloc::{AllocError, Global};
@@ -32,8 +33,8 @@ fn last_line(alloc: Global, client: u32, count: usize) -> Result<String, AllocEr
     format!(in alloc; "open {client} end {count}\n")
 }
 
-/// The next line of a list, of which this number of lines was said: an errand's, or how many they are.
-pub(crate) fn next_listed(
+/// The next line of a list of errands, of which this number of lines was said: an errand's, or how many they are.
+fn next_errand(
     alloc: Global,
     client: u32,
     errands: &[OpenErrand],
@@ -44,6 +45,16 @@ pub(crate) fn next_listed(
     match errands.get(listed) {
         Some(errand) => errand_line(alloc, client, *errand),
         None => last_line(alloc, client, errands.len()),
+    }
+}
+
+/// The next line of a list, of which this number of lines was said.
+pub(crate) fn next_listed(alloc: Global, rows: &Rows, listed: usize) -> Result<String, AllocError>
+    ensures { IfOk result (λ text. string_bytes text ≡ row_line rows.now listed) }
+{
+    match rows {
+        Rows::Errands { client, errands } => next_errand(alloc, *client, errands, listed),
+        Rows::Robots(robots) => next_robot(alloc, robots, listed),
     }
 }
 
@@ -61,8 +72,7 @@ pub(crate) fn begin_listing(
     let errands = session.world.open_errands(alloc, client)?;
     Ok(Rest::Listing(Listing {
         mark,
-        client,
-        errands,
+        rows: Rows::Errands { client, errands },
         listed: 0,
     }))
 }

@@ -41,7 +41,7 @@ pub struct Party {
 }
 
 /// How many clients a fleet has.
-fn count_of(session: &Session) -> u32
+pub(crate) fn count_of(session: &Session) -> u32
     requires { 0 ≤ session.now.world.core.number }
     ensures { result ≡ client_count session.now.world.core.history }
 {

@@ -3,15 +3,40 @@
 ghost use Rattle.std.specs.Prelude.{◌≡◌};
 ghost use Rattle.live_fleet.specs.Open.{is_done, is_ending, is_open, turns_left};
 ghost use Rattle.live_fleet.specs.Ending.{stays_at_end};
+ghost use Rattle.live_fleet.specs.Resting.{count_in};
 
+use crate::robots::RobotRow;
 use fleet_core::OpenErrand;
 
-/// A client's open errands, and how many of them were listed.
+/// What is listed.
+#[derive(Drop)]
+pub enum Rows {
+    /// A client's open errands.
+    Errands {
+        client: u32,
+        errands: Vec<OpenErrand>,
+    },
+    /// The robots, by number.
+    Robots(Vec<RobotRow>),
+}
+
+impl Rows {
+    /// How many they are.
+    pub(crate) fn count(&self) -> usize
+        ensures { result ≡ count_in self.now }
+    {
+        match self {
+            Rows::Errands { client: _, errands } => errands.len(),
+            Rows::Robots(robots) => robots.len(),
+        }
+    }
+}
+
+/// A list, and how many of its rows were said.
 #[derive(Drop)]
 pub struct Listing {
     pub mark: Option<Vec<u8>>,
-    pub client: u32,
-    pub errands: Vec<OpenErrand>,
+    pub rows: Rows,
     pub listed: usize,
 }
 

@@ -29,7 +29,7 @@ fn say_listed(
     ensures ok { IfOk result (λ is. SaysOrNot to (line_of list.now) is (out_of out.old) (out_of out.new)) }
     ensures count { vec_len out.new.texts ≡ vec_len out.old.texts }
 {
-    let text = next_listed(alloc, list.client, &list.errands, list.listed)?;
+    let text = next_listed(alloc, &list.rows, list.listed)?;
     let line = marked_text(alloc, mark_in(&list.mark), text.as_str())?;
     say_if_room(out, to, &line)
 }
@@ -48,7 +48,7 @@ fn list_on(
     if !say_listed(alloc, out, to, &list)? {
         return Ok(Rest::Listing(list));
     }
-    if list.listed >= list.errands.len() {
+    if list.listed >= list.rows.count() {
         return Ok(Rest::Nothing);
     }
     list.listed += 1;

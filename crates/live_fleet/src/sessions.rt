@@ -37,7 +37,7 @@ struct Standing {
 }
 
 /// What is known of a client's posts.
-fn note_at(notes: &[Note], client: u32) -> Note
+pub(crate) fn note_at(notes: &[Note], client: u32) -> Note
     ensures { result ≡ note_at notes.now client }
 {
     match notes.get(client as usize) {

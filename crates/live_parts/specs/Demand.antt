@@ -3,6 +3,8 @@ use Rattle.std.specs.Prelude.{ℕ, ◌^◌, Bool, true, false, List, [], ◌∷�
 use Rattle.std.specs.Option.{option_map}
 use Rattle.std.specs.Str.{bytes_eq}
 use Rattle.fleet_map.specs.Text.{number_of, words_of}
+use Rattle.fleet_script.specs.Event.{Said, said_in}
+use Rattle.fleet_script.specs.Event as said
 use Rattle.fleet_book.specs.declared.event.Event.{Event}
 use Rattle.fleet_book.specs.declared.event.Event.TheVariants.{Post, Tick, Shut}
 use Rattle.fleet_talk.specs.declared.ask.Asked.{Asked}
@@ -42,7 +44,7 @@ client_of (Some n) = small n
 abbrev pub client_in : List ℕ → Option ℕ
 client_in word = client_of (number_of word)
 
--- the number of a notice that a word says; no notice has so great a number as 2 ^ 58
+-- the number of a notice or of an order that a word says; none has so great a number as 2 ^ 58
 abbrev pub seq_in : List ℕ → Option ℕ
 seq_in word = option_map (λ n. min n (2 ^ 58)) (number_of word)
 
@@ -64,13 +66,40 @@ abbrev pub since_asked : List (List ℕ) → Demand
 since_asked (client ∷ seq ∷ []) = since_of (client_in client) (seq_in seq)
 since_asked words = demand.Bad
 
+-- a post that counts only as the order of this number of its client
+abbrev pub post_as : ℕ → Event → Demand
+post_as number (Post client order) = demand.PostAs (record { number = number; client = client; order = order })
+post_as number event = demand.Bad
+
+-- the same by what the line says after the number
+abbrev pub as_said : ℕ → Said → Demand
+as_said number (said.events more) = post_as number more.event
+as_said number line = demand.Bad
+
+abbrev pub as_of : Option ℕ → List (List ℕ) → Demand
+as_of (Some number) words = as_said number (said_in words)
+as_of None words = demand.Bad
+
+-- `as N post C ..`, by the words after the first
+abbrev pub as_asked : List (List ℕ) → Demand
+as_asked (number ∷ words) = as_of (seq_in number) words
+as_asked [] = demand.Bad
+
+-- `hello` and `robots`, by the words after the first: there are none
+abbrev pub lone_asked : List (List ℕ) → Demand → Demand
+lone_asked [] asked = asked
+lone_asked words asked = demand.Bad
+
 -- what a line asks that asks nothing of a fleet that stands still
 abbrev pub other_asked : Rights → List (List ℕ) → Demand
 other_asked rights [] = demand.Bad
 other_asked rights (word ∷ words) =
     if bytes_eq word (codes "session") then session_asked words
     else (if bytes_eq word (codes "since") then since_asked words
-    else where_granted rights.is_operator (watch_asked (word ∷ words)))
+    else (if bytes_eq word (codes "as") then as_asked words
+    else (if bytes_eq word (codes "hello") then lone_asked words demand.Hello
+    else (if bytes_eq word (codes "robots") then lone_asked words demand.Robots
+    else where_granted rights.is_operator (watch_asked (word ∷ words))))))
 
 -- what a line asks, by what it would ask of a fleet that stands still
 abbrev pub demand_of : Rights → Asked → List ℕ → Demand

@@ -2,10 +2,12 @@
 
 ghost use Rattle.std.specs.Prelude.{◌≡◌};
 ghost use Rattle.fleet_map.specs.Text.{words_of};
-ghost use Rattle.live_parts.specs.Demand.{client_in, demand_of, event_asked, other_asked, seq_in, session_asked, since_asked, watch_asked, where_granted};
+ghost use Rattle.fleet_script.specs.Event.{said_in};
+ghost use Rattle.live_parts.specs.Demand.{lone_asked, as_asked, as_said, client_in, demand_of, event_asked, other_asked, post_as, seq_in, session_asked, since_asked, watch_asked, where_granted};
 
 use fleet_book::{Event, Order};
 use fleet_map::text::{first_word, number_up_to};
+use fleet_script::{EventLine, event_line};
 use fleet_talk::{Asked, Line};
 
 /// What the keeper is asked for.
@@ -21,6 +23,14 @@ pub enum Wanted {
     Settle,
 }
 
+/// An order that counts only as the one of this number of its client.
+#[derive(Clone, Copy, Debug, PartialEq, Eq)]
+pub struct Numbered {
+    pub number: u64,
+    pub client: u32,
+    pub order: Order,
+}
+
 /// What a line asks.
 #[derive(Clone, Copy, Debug, PartialEq, Eq)]
 pub enum Demand {
@@ -29,12 +39,17 @@ pub enum Demand {
     Post(u32, Order),
     /// A post of this client to a cell to which posts are refused.
     NoRoom(u32),
+    PostAs(Numbered),
     /// A client's open errands.
     Open(u32),
     /// How far the fleet is with a client.
     Session(u32),
     /// What a client was told after the notice of this number.
     Since(u32, u64),
+    /// What the fleet is.
+    Hello,
+    /// How each robot stands.
+    Robots,
     Ask(Wanted),
     Watch(bool),
     Quit,
@@ -108,7 +123,7 @@ fn client_in(word: &[u8]) -> Option<u32>
     }
 }
 
-/// The number of a notice that a word says, or more than any notice has.
+/// The number of a notice or of an order that a word says, or more than any has.
 fn seq_in(word: &[u8]) -> Option<u64>
     ensures { result ≡ seq_in word.now }
 {
@@ -150,6 +165,54 @@ fn since_asked(rest: &[u8]) -> Demand
     }
 }
 
+/// What an event asks that counts only as the order of this number.
+fn post_as(number: u64, event: Event) -> Demand
+    ensures { result ≡ post_as number event }
+{
+    match event {
+        Event::Post(client, order) => Demand::PostAs(Numbered {
+            number,
+            client,
+            order,
+        }),
+        Event::Take(_) | Event::Tick | Event::Give(_) | Event::Collect(_) | Event::Shut(_) =>
+            Demand::Bad,
+    }
+}
+
+/// What an event line asks that counts only as the order of this number.
+fn as_said(number: u64, line: &[u8]) -> Demand
+    ensures { result ≡ as_said number (said_in (words_of line.now)) }
+{
+    match event_line(line) {
+        EventLine::Events(more) => post_as(number, more.event),
+        EventLine::Nothing | EventLine::Other => Demand::Bad,
+    }
+}
+
+/// What a line asks whose first word is `as`, by the words after it: a number, and a post.
+fn as_asked(rest: &[u8]) -> Demand
+    ensures { result ≡ as_asked (words_of rest.now) }
+{
+    let Some((number, line)) = first_word(rest) else {
+        return Demand::Bad;
+    };
+    match seq_in(number) {
+        Some(number) => as_said(number, line),
+        None => Demand::Bad,
+    }
+}
+
+/// What a line asks that is one word.
+fn lone_asked(rest: &[u8], asked: Demand) -> Demand
+    ensures { result ≡ lone_asked (words_of rest.now) asked }
+{
+    if first_word(rest).is_some() {
+        return Demand::Bad;
+    }
+    asked
+}
+
 /// What a line asks that asks nothing of a fleet that stands still.
 fn other_asked(rights: Rights, line: &[u8]) -> Demand
     ensures { result ≡ other_asked rights (words_of line.now) }
@@ -161,6 +224,12 @@ fn other_asked(rights: Rights, line: &[u8]) -> Demand
         session_asked(rest)
     } else if word == b"since".as_slice() {
         since_asked(rest)
+    } else if word == b"as".as_slice() {
+        as_asked(rest)
+    } else if word == b"hello".as_slice() {
+        lone_asked(rest, Demand::Hello)
+    } else if word == b"robots".as_slice() {
+        lone_asked(rest, Demand::Robots)
     } else {
         where_granted(rights.is_operator, watch_asked(line))
     }

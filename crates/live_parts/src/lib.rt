@@ -25,7 +25,7 @@ mod verdicts;
 mod waits;
 
 pub use archive::Archive;
-pub use demand::{Demand, Rights, Wanted, demand_of};
+pub use demand::{Demand, Numbered, Rights, Wanted, demand_of};
 pub use ends::{LiveEnds, LiveSettings, Pipes};
 pub use figures::Figures;
 pub use given::Given;

@@ -16,7 +16,6 @@ class MapView extends MapGround {
     this.shows = { heat: false, goals: true, lines: true, roomy: false };
     this.picked = null;
     this.follows = false;
-    this.faults = [];
     this.pulse = 0;
     this.other = new Int32Array(replay.robots);
     this.xs = new Float64Array(replay.robots);
@@ -261,15 +260,14 @@ class MapView extends MapGround {
     });
   }
 
-  // The cells and robots at fault in the entry that the judge names, if this frame is its.
+  // The cells and robots of what is wrong at this frame.
   drawFaults() {
     const { pen, view, replay, colours } = this;
     pen.strokeStyle = colours.fault;
     pen.fillStyle = colours.fault;
     pen.lineWidth = Math.max(3 * this.ratio, Math.min(view.scale / 8, 8 * this.ratio));
     const half = Math.max(view.scale * (0.5 + 0.12 * this.pulse), 7 * this.ratio);
-    for (const fault of this.faults) {
-      if (fault.frame !== replay.state.frame) continue;
+    for (const fault of replay.faultsAt(replay.state.frame)) {
       for (const cell of [...fault.cells, ...fault.robots.map((robot) => replay.state.cells[robot])]) {
         if (cell === undefined) continue;
         const [x, y] = this.pointOf(cell);

@@ -37,6 +37,7 @@ function noteOf(map, entry) {
       return `robot ${entry[1]} is shut${farewell}`;
     }
     case 'reopened': return `robot ${entry[1]} has another queue, wait or state than at the end of the chapter before`;
+    case 'conflict': return entry[1].detail;
     default: return `chapter ${entry[1]} begins`;
   }
 }
@@ -45,13 +46,17 @@ function isRefusal({ entry }) {
   return entry[0] === 'take' && entry[3][0] === 'refused';
 }
 
+function isConflict({ entry }) {
+  return entry[0] === 'conflict';
+}
+
 function showEntries(list, replay) {
   const { frame } = replay.state;
   const events = replay.events[frame] ?? [];
   const items = events.slice(0, MOST_ENTRIES).map((event) => {
     const item = document.createElement('li');
     item.textContent = noteOf(replay.map, event.entry);
-    item.classList.toggle('refused', isRefusal(event));
+    item.classList.toggle('refused', isRefusal(event) || isConflict(event));
     return item;
   });
   if (events.length > MOST_ENTRIES || events.length === 0) {

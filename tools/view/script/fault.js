@@ -16,49 +16,61 @@ const RULES = [
 
 const NO_DETAIL = { detail: '', robots: [], cells: [] };
 
-// Two robots on one cell, or one on a cell that is no floor.
-function detailOfPlaces(map, cells) {
+// Of each robot: that its cell is no floor, or that another one, the first of them, is on it.
+function* faultsOfPlaces(map, cells) {
   const first = new Map();
   for (let robot = 0; robot < cells.length; robot += 1) {
     const cell = cells[robot];
     if (!map.floor[cell]) {
-      return { detail: `robot ${robot} is on cell ${cell}, which is no floor`, robots: [robot], cells: [cell] };
-    }
-    if (first.has(cell)) {
+      yield { detail: `robot ${robot} is on cell ${cell}, which is no floor`, robots: [robot], cells: [cell] };
+    } else if (first.has(cell)) {
       const other = first.get(cell);
-      return { detail: `robots ${other} and ${robot} are on cell ${cell}`, robots: [other, robot], cells: [cell] };
+      yield { detail: `robots ${other} and ${robot} are on cell ${cell}`, robots: [other, robot], cells: [cell] };
+    } else {
+      first.set(cell, robot);
     }
-    first.set(cell, robot);
   }
-  return NO_DETAIL;
 }
 
-function detailOfOpening(map, opening) {
-  return detailOfPlaces(map, opening.robots.map((robot) => robot[0]));
+function isNear(map, one, other) {
+  let near = one === other;
+  eachNeighbour(map, one, (beside) => { near = near || beside === other; });
+  return near;
 }
 
-function detailOfStep(map, from, to) {
-  if (to.length !== from.length) return { ...NO_DETAIL, detail: `it has ${to.length} cells for ${from.length} robots` };
-  const places = detailOfPlaces(map, to);
-  if (places !== NO_DETAIL) return places;
+// Of each robot: that it goes too far, or that it exchanges its cell with that of a later one.
+function* faultsOfMoves(map, from, to) {
   const at = new Map();
   from.forEach((cell, robot) => at.set(cell, robot));
   for (let robot = 0; robot < to.length; robot += 1) {
     const [old, cell] = [from[robot], to[robot]];
-    let near = old === cell;
-    eachNeighbour(map, old, (other) => { near = near || other === cell; });
     const cells = [old, cell];
-    if (!near) {
-      const detail = `robot ${robot} goes from cell ${old} to cell ${cell}, which is no neighbour`;
-      return { detail, robots: [robot], cells };
-    }
     const other = at.get(cell);
-    if (other !== undefined && other !== robot && to[other] === old) {
+    if (!isNear(map, old, cell)) {
+      const detail = `robot ${robot} goes from cell ${old} to cell ${cell}, which is no neighbour`;
+      yield { detail, robots: [robot], cells };
+    } else if (other !== undefined && other > robot && old !== cell && to[other] === old) {
       const detail = `robots ${robot} and ${other} exchange the cells ${old} and ${cell}`;
-      return { detail, robots: [robot, other], cells };
+      yield { detail, robots: [robot, other], cells };
     }
   }
-  return NO_DETAIL;
+}
+
+function* faultsOfStep(map, from, to) {
+  if (to.length !== from.length) {
+    yield { ...NO_DETAIL, detail: `it has ${to.length} cells for ${from.length} robots` };
+    return;
+  }
+  yield* faultsOfPlaces(map, to);
+  yield* faultsOfMoves(map, from, to);
+}
+
+function firstOf(faults) {
+  return faults.next().value ?? NO_DETAIL;
+}
+
+function detailOfOpening(map, opening) {
+  return firstOf(faultsOfPlaces(map, opening.robots.map((robot) => robot[0])));
 }
 
 // The first robot of which one list tells and the other does not.
@@ -78,7 +90,7 @@ function firstOdd(due, shown, to, missing, extra) {
 function detailOfTick(replay, trace, entry, rule) {
   const { cells, queues, shut } = replay.state;
   const [, to, arrived, farewells] = entry;
-  if (rule === 4) return detailOfStep(replay.map, cells, to);
+  if (rule === 4) return firstOf(faultsOfStep(replay.map, cells, to));
   const due = [...to.keys()].filter((robot) => queues[robot].length > 0 && queues[robot][0].cell === to[robot]);
   if (rule === 5) {
     const shown = arrived.map((arrival) => arrival[0]);
@@ -112,4 +124,12 @@ function faultText(fault) {
   const where = fault.at === 0 ? 'in its opening' : `at entry ${fault.at}`;
   const detail = fault.detail === '' ? '' : `: ${fault.detail}`;
   return `illegal ${where}: it breaks rule ${fault.rule}, ${RULES[fault.rule] ?? 'unknown'}${detail}`;
+}
+
+// So many conflicts are listed.
+const MOST_CONFLICTS = 20000;
+
+function conflictsText(count) {
+  const listed = count > MOST_CONFLICTS ? `the first ${MOST_CONFLICTS}` : 'each';
+  return `${count} conflict${count === 1 ? '' : 's'} in all: ${listed} among the events, with the tick.`;
 }

@@ -9,6 +9,7 @@ const EVENT_KINDS = {
   refusals: isRefusal,
   arrivals: (event) => event.entry[0] === 'arrival',
   shuts: (event) => event.entry[0] === 'shut' || event.entry[0] === 'farewell',
+  conflicts: isConflict,
   chapters: (event) => event.entry[0] === 'chapter' || event.entry[0] === 'reopened',
 };
 
@@ -17,11 +18,15 @@ function clientOf({ entry }) {
   return entry[0] === 'arrival' ? entry[3] : null;
 }
 
-function robotOf(event) {
+function robotsOf(event) {
   const { entry } = event;
-  if (entry[0] === 'take') return entry[2][0] === 'go' ? entry[2][1] : event.robot ?? null;
-  if (entry[0] === 'arrival') return entry[2];
-  return entry[0] === 'chapter' ? null : entry[1];
+  switch (entry[0]) {
+    case 'take': return [entry[2][0] === 'go' ? entry[2][1] : event.robot];
+    case 'arrival': return [entry[2]];
+    case 'conflict': return entry[1].robots;
+    case 'chapter': return [];
+    default: return [entry[1]];
+  }
 }
 
 // The events of a kind, of a client and of a robot, with their frames; null stands for all clients or robots.
@@ -31,7 +36,7 @@ function eventsOf(replay, { kind, client, robot }) {
     for (const event of events) {
       if (!EVENT_KINDS[kind](event)) continue;
       if (client !== null && clientOf(event) !== client) continue;
-      if (robot !== null && robotOf(event) !== robot) continue;
+      if (robot !== null && !robotsOf(event).includes(robot)) continue;
       found.push({ frame, event });
     }
   });
@@ -104,7 +109,7 @@ class EventList {
     button.type = 'button';
     button.dataset.frame = frame;
     button.textContent = `tick ${this.replay.clockAt(frame)}: ${noteOf(this.replay.map, event.entry)}`;
-    item.classList.toggle('refused', isRefusal(event));
+    item.classList.toggle('refused', isRefusal(event) || isConflict(event));
     item.classList.toggle('now', frame === now);
     item.append(button);
     return item;

@@ -17,6 +17,7 @@ function marksOf(replay) {
     for (const event of events) {
       if (event.entry[0] === 'shut') add('shutting', frame);
       else if (isRefusal(event)) add('refusal', frame);
+      else if (isConflict(event)) add('fault', frame);
     }
   });
   for (const fault of replay.faults) add('fault', fault.frame);

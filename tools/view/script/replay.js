@@ -42,6 +42,7 @@ class Replay {
     this.openings = [];
     this.chapters = [];
     this.faults = [];
+    this.conflicts = 0;
     this.state = openedState(traces[0].opening);
     this.build(traces, verdicts);
     this.seek(0);
@@ -55,8 +56,10 @@ class Replay {
       trace.entries.forEach((entry, number) => {
         const fault = verdict !== null && verdict.at === number + 1 ? detailOf(this, trace, entry, verdict) : null;
         if (entry[0] === 'tick') {
+          const conflicts = verdict === null ? [] : [...faultsOfStep(this.map, this.state.cells, entry[1])];
           this.measure(arrived);
           this.addTick(entry);
+          this.addConflicts(conflicts);
           arrived += entry[2].length;
         } else if (entry[0] === 'take') {
           this.push(takeEvent(this.state, entry));
@@ -88,7 +91,19 @@ class Replay {
       waits: Array.from(state.since, (since) => (since === since ? frame - since : null)),
       goals: state.queues.map((queue) => (queue.length > 0 ? queue[0].cell : -1)),
     });
-    if (verdict !== null && verdict.at === 0) this.addFault(trace, verdict, detailOfOpening(this.map, trace.opening));
+    if (verdict !== null && verdict.at === 0) {
+      this.addFault(trace, verdict, detailOfOpening(this.map, trace.opening));
+      this.addConflicts([...faultsOfPlaces(this.map, trace.opening.robots.map((robot) => robot[0]))]);
+    }
+  }
+
+  // Conflicts are looked for in illegal chapters alone.
+  addConflicts(conflicts) {
+    for (const conflict of conflicts) {
+      this.conflicts += 1;
+      if (this.conflicts > MOST_CONFLICTS) continue;
+      this.push({ kind: 'note', frame: this.state.frame, entry: ['conflict', conflict] });
+    }
   }
 
   addFault(trace, verdict, detail) {
@@ -208,6 +223,12 @@ class Replay {
     const frame = clock - this.chapters[0].clock;
     if (frame <= 0n) return 0;
     return frame >= BigInt(this.last) ? this.last : Number(frame);
+  }
+
+  // What is wrong at a frame: what the judge names, and each conflict.
+  faultsAt(frame) {
+    const conflicts = (this.events[frame] ?? []).filter(isConflict).map((event) => event.entry[1]);
+    return [...this.faults.filter((fault) => fault.frame === frame), ...conflicts];
   }
 
   arrivedAt(frame) {

@@ -15,7 +15,6 @@ class Page {
     this.player = new Player(this);
     this.address = new Address(this);
     this.view = new MapView(element('map'), replay);
-    this.view.faults = replay.faults;
     this.waitChart = new Chart(element('wait-chart'), replay.wait, 'longest wait');
     this.charts = [
       new Chart(element('arrivals-chart'), recentArrivals(replay.arrivals), `arrivals in ${WINDOW} ticks`),
@@ -46,10 +45,11 @@ class Page {
 
   // The judge's verdict: a line for each chapter that is illegal, with a jump to the tick, and a mark on the slider.
   showVerdict() {
-    const { faults, last } = this.replay;
+    const { faults, conflicts } = this.replay;
     const { dataset } = document.body;
     dataset.verdict = faults.length === 0 ? 'legal' : 'illegal';
     dataset.faultFrames = faults.map((fault) => fault.frame).join(' ');
+    dataset.conflicts = conflicts;
     dataset.faultRobots = faults.map((fault) => fault.robots.join(',')).join(' ');
     element('judged').textContent = faults.length === 0 ? 'judged legal' : '';
     element('verdict').hidden = faults.length === 0;
@@ -65,6 +65,7 @@ class Page {
       return line;
     });
     if (faults.length > MOST_BANNERS) lines.push(`${faults.length - MOST_BANNERS} more chapters are illegal.`);
+    if (conflicts > 0) lines.push(conflictsText(conflicts));
     element('verdict').replaceChildren(...lines);
     showMarks(element('marks'), this.replay);
   }

@@ -87,7 +87,7 @@ class Player {
     const { replay, view } = this.page;
     const { frame } = replay.state;
     view.pulse = 0;
-    if (!replay.faults.some((fault) => fault.frame === frame)) return;
+    if (replay.faultsAt(frame).length === 0) return;
     if (matchMedia('(prefers-reduced-motion: reduce)').matches) return;
     const since = performance.now();
     this.flashing = since;

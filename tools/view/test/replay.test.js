@@ -135,6 +135,25 @@ test('the fault of an illegal step names robots and cells', () => {
   assert.strictEqual(page.faultText(both), `illegal at entry 1: ${rule}: robots 0 and 1 are on cell 1`);
 });
 
+test('each conflict of an illegal chapter is an event at its tick', () => {
+  const steps = [tick([1, 1, 1]), tick([0, 2, 7]), tick([3, 2, 4]), tick([4, 2, 3])];
+  const replay = replayOf(OPEN, [trace([robot(0), robot(2), robot(4)], steps)], ['illegal 1 4']);
+  const listed = (kind, of = null) => page.eventsOf(replay, { kind, client: null, robot: of })
+    .map(({ frame, event }) => `${frame}: ${page.noteOf(OPEN, event.entry)}`);
+  const all = [
+    '1: robots 0 and 1 are on cell 1', '1: robots 0 and 2 are on cell 1',
+    '2: robot 2 goes from cell 1 to cell 7, which is no neighbour',
+    '4: robots 0 and 2 exchange the cells 3 and 4',
+  ];
+  assert.deepStrictEqual(listed('conflicts'), all);
+  assert.deepStrictEqual(listed('conflicts', 1), all.slice(0, 1));
+  assert.strictEqual(replay.conflicts, 4);
+  assert.deepStrictEqual(replay.faultsAt(3), []);
+  assert.deepStrictEqual(replay.faultsAt(4)[0].cells, [3, 4]);
+  const legal = replayOf(OPEN, [trace([robot(0), robot(2)], [tick([1, 2])])]);
+  assert.strictEqual(legal.conflicts, 0);
+});
+
 test('the fault of what a tick tells names the robot', () => {
   const fault = (entries, verdict) => replayOf(OPEN, [trace([robot(0), robot(8)], entries)], [verdict]).faults[0];
   assert.deepStrictEqual(fault([go(0, 0, 1, 1), tick([1, 8])], 'illegal 2 5').robots, [0]);

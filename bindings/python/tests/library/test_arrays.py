@@ -90,7 +90,14 @@ class ArraysTest(unittest.TestCase):
         with Map(RING) as ring:
             self.assertEqual(list(ring.floor_cells()), [0, 1, 2, 3, 4, 6, 7, 8, 9, 10, 11])
             self.assertEqual(len(ring.floor_cells()), ring.floor)
+            if numpy is not None:
+                # The memory is the array's own, and can be written.
+                cells = ring.floor_cells()
+                self.assertEqual((cells.dtype, cells.flags.owndata, cells.flags.writeable), (numpy.uint32, True, True))
+                self.assertTrue(ring.distances(4).flags.owndata)
         self.assertRaises(Refused, ring.floor_cells)
+        with Map(RING.replace(".", "@")) as none:
+            self.assertEqual(len(none.floor_cells()), 0)
 
 
 if __name__ == "__main__":

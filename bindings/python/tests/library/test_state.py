@@ -6,6 +6,8 @@ from nashirudder import OutOfRange, Refused
 from nashirudder.library import Handle, Map, Opening, OpeningRobot, judge
 
 RING = "type octile\nheight 3\nwidth 4\nmap\n....\n.@..\n....\n"
+# In its dead end of three cells two robots block one another, but where they take turns.
+STUB = "type octile\nheight 3\nwidth 6\nmap\n...@@@\n......\n...@@@\n"
 WALL = RING.replace(".@..", ".@@.")
 
 
@@ -60,6 +62,49 @@ class StateTest(unittest.TestCase):
         del state.robots[0]
         with Handle.reopen(RING, state.trace()) as fleet:
             self.assertEqual((list(fleet.placement()), fleet.is_idle()), ([4, 10], False))
+
+    def test_going_on(self):
+        fleet = Handle(RING, [(0, (1, 2, 3, 4)), (3, (4, 3, 2, 1))], chapter=7, mailbox=5)
+        ranks = [(1, 2, 3, 4), (4, 3, 2, 1)]
+        fleet.keep(0)
+        fleet.go(0, 11)
+        fleet.next_chapter()
+        before = fleet.opening()
+        for _ in range(2):
+            for _ in range(5):
+                fleet.tick()
+            self.assertEqual((list(fleet.placement())[0], fleet.clock(), len(fleet.give_many())), (11, 5, 1 if fleet.opening().chapter > 1 else 2))
+            fleet.go_on(RING, before, ranks)
+            self.assertEqual((fleet.clock(), fleet.opening().chapter, fleet.limits()["chapter"], fleet.limits()["mailbox"]), (0, 2, 7, 5))
+        # What a map does not suit is refused, and nothing changes.
+        now = fleet.trace()
+        before.robots.append(OpeningRobot(cell=6))
+        for map, four, name in ((WALL, None, "chapter-illegal"), (RING, ranks, "laws-differ")):
+            with self.assertRaises(Refused) as refused:
+                fleet.go_on(map, before, four)
+            self.assertEqual((refused.exception.name, fleet.trace(), fleet.robots()), (name, now, 2))
+        before.queue = 3
+        fleet.go_on(RING, before)
+        self.assertEqual((list(fleet.placement())[2], fleet.robots(), fleet.limits()["queue"], len(fleet.standings())), (6, 3, 3, 3))
+        before.queue = 2**40
+        self.assertRaises(OutOfRange, fleet.go_on, RING, before)
+        fleet.close()
+        self.assertRaises(Refused, fleet.go_on, RING, self.state)
+
+    def test_going_on_roomy_and_in_turns(self):
+        with Handle(STUB, [8, 11], roomy=True) as roomy:
+            roomy.go_on(STUB, roomy.opening())
+            with self.assertRaises(Refused) as refused:
+                roomy.go(0, 11)
+            self.assertEqual(refused.exception.name, "no-room")
+        with Handle(STUB, [8, 11]) as turning:
+            turning.take_turns()
+            turning.go_on(STUB, turning.opening())
+            turning.go(0, 11)
+            turning.go(1, 0)
+            for _ in range(60):
+                turning.tick()
+            self.assertTrue(turning.is_idle())
 
     def test_a_wall(self):
         with Handle.reopen(WALL, self.state.trace()) as fleet:

@@ -13,7 +13,7 @@ pub(crate) const MAP: Argument<'static> = Argument {
 pub(crate) const SCRIPT: Argument<'static> = Argument {
     name: "SCRIPT",
     kind: Kind::OptionalFile,
-    help: "Header lines of a script, which may also begin the conversation",
+    help: "Header lines of a script",
 };
 
 /// To refuse posts to cells that are not roomy.
@@ -41,7 +41,7 @@ pub(crate) const TRACES: Argument<'static> = Argument {
 pub(crate) const CHAPTER_BYTES: Argument<'static> = Argument {
     name: "chapter-bytes",
     kind: Kind::Value("N"),
-    help: "Begin the next chapter where a text has this many bytes; 67108864 if not given",
+    help: "Begin the next chapter at N bytes of text; 67108864 if not given",
 };
 
 /// To go on, and never to begin anew.

@@ -29,13 +29,15 @@ pub struct Check {
     pub form: FormAsked,
     /// A scenario with the robots' starts and goals.
     pub goals: Option<String>,
+    /// Whether each conflict is printed, not the first alone.
+    pub all: bool,
     /// How many robots the plan has to have.
     pub agents: Option<u32>,
     pub map: String,
     pub plan: String,
 }
 
-/// `check [--strict] [--form FORM] [--goals SCENARIO] [--agents N] MAP PLAN`.
+/// `check [--strict] [--all] [--form FORM] [--goals SCENARIO] [--agents N] MAP PLAN`.
 pub(crate) const CHECK: Word<'static> = Word {
     name: "check",
     about: "Judges a plan on a map: whether it is free of conflicts, and what it costs",
@@ -45,6 +47,11 @@ pub(crate) const CHECK: Word<'static> = Word {
             name: "strict",
             kind: Kind::Flag,
             help: "Call a plan valid only if each robot ends on its goal",
+        },
+        Argument {
+            name: "all",
+            kind: Kind::Flag,
+            help: "Print each conflict, a line for each",
         },
         FORM,
         Argument {
@@ -61,7 +68,7 @@ pub(crate) const CHECK: Word<'static> = Word {
         Argument {
             name: "PLAN",
             kind: Kind::File,
-            help: "A plan: lines of cells or moves, paths of CBS, a table (CSV), YAML, or JSON of the League of Robot Runners",
+            help: "A plan",
         },
     ],
 };
@@ -123,6 +130,7 @@ pub(crate) fn check_in(alloc: Global, matches: &ArgMatches<'_>) -> Result<Check,
     let plan = word_for(alloc, matches, "PLAN")?;
     Ok(Check {
         strict: has_flag(matches, "strict"),
+        all: has_flag(matches, "all"),
         form: form_in(matches),
         goals,
         agents,

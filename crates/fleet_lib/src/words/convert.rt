@@ -38,13 +38,13 @@ pub(crate) const CONVERT: Word<'static> = Word {
         Argument {
             name: "to",
             kind: Kind::RequiredValue("FORM"),
-            help: "pibt2 (cells), moves (letters), lorr (JSON of the League of Robot Runners), agents (CBS), table (CSV), yaml, or trace",
+            help: "pibt2 (cells), moves (letters), lorr (JSON), agents (CBS), table (CSV), yaml, or trace",
         },
         MAP,
         Argument {
             name: "INPUT",
             kind: Kind::File,
-            help: "What `errands run --trace` or `errands serve` wrote; with `--to trace`, a plan",
+            help: "A trace, or with `--to trace` a plan",
         },
     ],
 };

@@ -25,13 +25,13 @@ pub struct Execute {
 /// `execute [--clearance RULE] [--ahead N] [--form FORM] MAP PLAN`.
 pub(crate) const EXECUTE: Word<'static> = Word {
     name: "execute",
-    about: "Executes a plan with robots that are not in step: says which move may begin, reads arrivals",
+    about: "Executes a plan with robots that are not in step",
     example: "Example: fleet execute arena.map plan.txt < reports > moves",
     arguments: &[
         Argument {
             name: "clearance",
             kind: Kind::Value("RULE"),
-            help: "When a cell is clear: the robot on it has `arrived` on its next one, or has `started` to leave",
+            help: "When a cell is clear: the robot has `arrived` on its next one, or `started`",
         },
         Argument {
             name: "ahead",

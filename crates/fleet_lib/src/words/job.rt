@@ -6,6 +6,7 @@ ghost use Rattle.fleet_lib.specs.Command.{fleet_app};
 ghost use Rattle.fleet_lib.specs.Asked.{IsJobOf};
 ghost use Rattle.command_words.specs.declared.words.WordFault.TheVariants.{NoMemory};
 
+use crate::words::change::{ChangeJob, change_in};
 use crate::words::check::{Check, check_in};
 use crate::words::convert::{Convert, convert_in};
 use crate::words::execute::{Execute, execute_in};
@@ -13,7 +14,8 @@ use crate::words::explain::{Explain, explain_in};
 use crate::words::judge::{Judge, judge_in};
 use crate::words::live::{Live, live_in};
 use crate::words::map::{MapJob, map_in};
-use crate::words::program::program;
+use crate::words::program::{fleet_words, program};
+use crate::words::sim::{SimJob, sim_in};
 use crate::words::stats::{Stats, stats_in};
 use crate::words::talk::{Talk, talk_in};
 use crate::words::view::{View, view_in};
@@ -34,6 +36,8 @@ pub enum Job {
     Judge(Judge),
     Map(MapJob),
     Execute(Execute),
+    Sim(SimJob),
+    Change(ChangeJob),
 }
 
 /// The job of the words that `clap` accepted.
@@ -62,6 +66,10 @@ fn job_from(alloc: Global, matches: &ArgMatches<'_>) -> Result<Job, AllocError>
                 Ok(Job::Map(map_in(alloc, inner)?))
             } else if name == "execute" {
                 Ok(Job::Execute(execute_in(alloc, inner)?))
+            } else if name == "sim" {
+                Ok(Job::Sim(sim_in(alloc, inner)?))
+            } else if name == "change" {
+                Ok(Job::Change(change_in(alloc, inner)?))
             } else {
                 // `clap` takes no other word, so this never runs
                 Err(AllocError)
@@ -80,7 +88,8 @@ pub fn parse_words(alloc: Global, words: &[String]) -> Result<Job, WordFault>
     // words that `clap` takes are refused only where memory runs out
     ensures refused { IfErr result (λ f. takes fleet_app (map (λ w. string_bytes w) words.now) ≡ true → f ≡ NoMemory) }
 {
-    match matches_for(alloc, &program(), words) {
+    let known = fleet_words();
+    match matches_for(alloc, &program(&known), words) {
         Ok(matches) => Ok(job_from(alloc, &matches)?),
         Err(fault) => Err(fault),
     }

@@ -27,7 +27,7 @@ pub(crate) const JUDGE: Word<'static> = Word {
         Argument {
             name: "TRACE",
             kind: Kind::Files,
-            help: "Traces of `errands`, `talk` or `live`, of at most 1 GiB, each judged by itself",
+            help: "Traces, of at most 1 GiB each",
         },
     ],
 };

@@ -79,7 +79,7 @@ pub(crate) const LIVE: Word<'static> = Word {
         Argument {
             name: "tickers",
             kind: Kind::Value("N"),
-            help: "Gone: one loop makes all turns",
+            help: "Gone",
         },
         Argument {
             name: "client",

@@ -72,3 +72,15 @@ returns-in_ok-execute_in-in-Some c =
     let rows = rows_of (found_of c.in-Some.inner.now) in
     let name_is : c.in-Some.name.now ≡ codes "execute" = (bytes_eq-Decides c.in-Some.name.now (codes "execute")).0 (sym c.eq-else-eq-9.ensures ∙ c.if-eq-10.true) in
     (rows, named _ _ _ c.in-Some.name.now rows c.in-Some.ensures.name c.in-Some.ensures.rows ∙ ap (λ (n : Text). Some (n, rows)) name_is, c.in_ok-execute_in-in-Some.ensures)
+
+pub returns-in_ok-sim_in-in-Some : goal.returns-in_ok-sim_in-in-Some
+returns-in_ok-sim_in-in-Some c =
+    let rows = rows_of (found_of c.in-Some.inner.now) in
+    let name_is : c.in-Some.name.now ≡ codes "sim" = (bytes_eq-Decides c.in-Some.name.now (codes "sim")).0 (sym c.eq-else-eq-10.ensures ∙ c.if-eq-11.true) in
+    (rows, named _ _ _ c.in-Some.name.now rows c.in-Some.ensures.name c.in-Some.ensures.rows ∙ ap (λ (n : Text). Some (n, rows)) name_is, c.in_ok-sim_in-in-Some.ensures)
+
+pub returns-in_ok-change_in-in-Some : goal.returns-in_ok-change_in-in-Some
+returns-in_ok-change_in-in-Some c =
+    let rows = rows_of (found_of c.in-Some.inner.now) in
+    let name_is : c.in-Some.name.now ≡ codes "change" = (bytes_eq-Decides c.in-Some.name.now (codes "change")).0 (sym c.eq-else-eq-11.ensures ∙ c.if-eq-12.true) in
+    (rows, named _ _ _ c.in-Some.name.now rows c.in-Some.ensures.name c.in-Some.ensures.rows ∙ ap (λ (n : Text). Some (n, rows)) name_is, c.in_ok-change_in-in-Some.ensures)
