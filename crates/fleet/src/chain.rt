@@ -50,7 +50,7 @@ fn place_of(alloc: Global, name: &str) -> Result<Option<Place<'_>>, AllocError> 
     }
 }
 
-/// The chapter before the next one.
+/// The chapter that was looked at last.
 #[derive(Drop)]
 struct Last {
     folder: String,
@@ -58,7 +58,7 @@ struct Last {
     trace: Vec<u8>,
 }
 
-/// The map on which the next chapter was played, and what is known of its site.
+/// The map of the chapter that it came to, the record of the changes before it, and the chapter looked at last.
 #[derive(Drop)]
 pub(crate) struct Chain {
     pub(crate) map: Vec<u8>,
@@ -181,8 +181,8 @@ impl Chain {
         }
     }
 
-    /// Comes to the chapter whose trace is in the file of this name: afterwards the map is the one on which it was played. A
-    /// file that does not have the name of a chapter is on the map as it is.
+    /// Comes to the chapter whose trace is in the file of this name: afterwards the map is the one on which it was
+    /// played. A file that does not have the name of a chapter is on the map as it is.
     pub(crate) fn come_to<R: Files + Alloc<A = Global> + Clone + Drop>(
         &mut self,
         rt: &R,

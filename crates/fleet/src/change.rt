@@ -13,10 +13,11 @@ use std::alloc::{Alloc, AllocError, Global};
 use std::fs::{File, Files};
 use std::io::{self, ErrorKind, Write};
 
-/// Why what changes make is not written: the file of this name.
+/// Why what the changes make was not written.
 #[derive(Drop)]
 enum Unwritten {
     File(String, io::Error),
+    /// The file of this name cannot be written.
     NoMemory,
 }
 
@@ -58,8 +59,8 @@ fn write_file<R: Files + Alloc<A = Global>>(
     }
 }
 
-/// Writes the map, then the record, then the chapter. Without its chapter a record is of changes that were not made, and the
-/// next start removes it.
+/// Writes the map, then the record, then the chapter. Without its chapter a record is of changes that were not made,
+/// and the next start removes it.
 fn write_changed<R: Files + Alloc<A = Global>>(
     rt: &R,
     change: &ChangeJob,

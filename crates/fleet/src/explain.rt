@@ -20,8 +20,8 @@ fn is_trace(text: &[u8]) -> bool {
     false
 }
 
-/// The answer to the files, which are opened and read in their order. A chapter has to be of the map of the last changes before
-/// it.
+/// The answer to the files, which are opened and read in their order. A chapter has to be of the map of the last changes
+/// before it.
 fn answer_files<'a, R: Files + Alloc<A = Global> + Clone + Drop>(
     rt: &R,
     explain: &'a Explain,

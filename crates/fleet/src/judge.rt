@@ -33,8 +33,8 @@ fn judge_trace<W: Write, E: Write>(
     }
 }
 
-/// Judges the trace in the file with this name on the map on which it was played. The error is the status where no trace after
-/// it is judged.
+/// Judges the trace in the file with this name on the map on which it was played. The error is the status where no trace
+/// after it is judged.
 fn judge_file<R: Files + Alloc<A = Global> + Clone + Drop, W: Write, E: Write>(
     rt: &R,
     chain: &mut Chain,
@@ -60,10 +60,10 @@ fn judge_file<R: Files + Alloc<A = Global> + Clone + Drop, W: Write, E: Write>(
     }
 }
 
-/// Judges the traces, one after the other. A chapter next to which a record of changes is has to begin with what they make of
-/// the chapter before it, and is judged on their map. Returns the status: 0 all are legal, 3 a file failed, 4 the map is
-/// refused, 6 a trace or a record is refused, or a trace illegal, 7 memory ran out. Only after a trace that is refused or
-/// illegal it goes on with the traces that are left.
+/// Judges the traces, one after the other. A chapter with a record of changes next to it has to begin with what they
+/// make of the chapter before it, and is judged on their map. Returns the status: 0 all are legal, 3 a file failed, 4
+/// the map is refused, 6 a trace or a record is refused, or a trace illegal, 7 memory ran out. Only after a trace that
+/// is refused or illegal it goes on with the traces that are left.
 pub(crate) fn run_judge<R: Files + Alloc<A = Global> + Clone + Drop, W: Write, E: Write>(
     rt: &R,
     judge: &Judge,

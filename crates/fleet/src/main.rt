@@ -4,9 +4,8 @@
 //! they come. `fleet convert --to FORM MAP INPUT` prints a trace as a plan, or a plan as a trace, and `fleet explain
 //! MAP [INPUT]` says what is wrong with files. `fleet live MAP` keeps a fleet in real time. `fleet judge MAP TRACE..`
 //! judges traces, and `fleet map --robots N MAP` says what a map offers for a fleet. `fleet execute MAP PLAN`
-//! executes a plan, `fleet sim MAP` runs experiments on a map, and `fleet change MAP CHANGE..` changes the site of a fleet between two
-//! runs. What each word does is in
-//! `fleet_lib`.
+//! executes a plan, `fleet sim MAP` runs experiments on a map, and `fleet change MAP CHANGE..` changes the site of a
+//! fleet between two runs. What each word does is in `fleet_lib`.
 #![tactic(auto)]
 
 mod chain;

@@ -128,8 +128,8 @@ fn line_of(alloc: Global, refusal: Refusal) -> Result<(String, u8), AllocError> 
 }
 
 /// Keeps the chapters of the journals that were found in a folder, if its fleet is to go on: each is judged as any
-/// chapter, and has to follow the one before. Returns the files of the last chapter and of the record of the last changes. Where
-/// the map is another than theirs, or a journal is refused, that is said, and the error is the status.
+/// chapter, and has to follow the one before. Returns the files of the last chapter and of the record of the last
+/// changes. Where the map is another than theirs, or a journal is refused, that is said, and the error is the status.
 pub(crate) fn recover<R: Files + Alloc<A = Global>, E: Write, G: Write>(
     rt: &R,
     place: (&[u8], &str),

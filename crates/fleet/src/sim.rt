@@ -76,8 +76,8 @@ fn nanos_between(from: Option<Instant>, to: Option<Instant>) -> u64 {
     }
 }
 
-/// Makes one step: a tick, and the next errands of those that arrived. Returns the nanoseconds of both together, and those of
-/// the tick.
+/// Makes one step: a tick, and the next errands of those that arrived. Returns the nanoseconds of both together, and
+/// those of the tick.
 fn step<R: Alloc<A = Global> + Clock>(
     rt: &R,
     sim: &mut Sim,
@@ -206,8 +206,8 @@ fn table_of<'a, R: Files + Alloc<A = Global> + Clock>(
     Ok(answer_sim(rt.alloc(), plan.form, &lines, asked.times)?)
 }
 
-/// Prints a table of experiments. Returns the status: 0 good, 2 words that ask for none, 3 a file failed, 4 the map or 5 the
-/// list of cells is refused, 6 a run that does not go on, 7 memory ran out.
+/// Prints a table of experiments. Returns the status: 0 good, 2 words that ask for none, 3 a file failed, 4 the map or 5
+/// the list of cells is refused, 6 a run that does not go on, 7 memory ran out.
 pub(crate) fn run_sim<R: Files + Alloc<A = Global> + Clock, W: Write, E: Write>(
     rt: &R,
     asked: &SimJob,

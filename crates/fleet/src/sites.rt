@@ -42,7 +42,7 @@ fn last_until(numbers: &[u32], last: u32) -> Option<u32> {
     found
 }
 
-/// The record of the last changes before the end of a chapter, if there were any.
+/// The record of the last changes up to the begin of a chapter, if there were any.
 pub(crate) fn site_until<R: Files + Alloc<A = Global>>(
     rt: &R,
     folder: &str,
@@ -58,8 +58,8 @@ pub(crate) fn site_until<R: Files + Alloc<A = Global>>(
     }
 }
 
-/// Removes the records of changes that were not made, since the program was killed before their chapter was written: those
-/// with a greater number than the last chapter, or all if there is none.
+/// Removes the records of changes that were not made, since the program was killed before their chapter was written:
+/// those with a greater number than the last chapter, or all if there is none.
 pub(crate) fn remove_unmade<R: Files + Alloc<A = Global>>(
     rt: &R,
     folder: &str,
