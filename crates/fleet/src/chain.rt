@@ -108,6 +108,15 @@ fn site_before<R: Files + Alloc<A = Global> + Clone + Drop>(
     }
 }
 
+/// A chapter before changes, lent.
+fn lent_before<'a>(map: &'a [u8], site: &'a Option<KeptFile>, trace: &'a [u8]) -> Before<'a> {
+    let site = match site {
+        Some(file) => Some(file.lent()),
+        None => None,
+    };
+    Before { map, site, trace }
+}
+
 impl Chain {
     /// A chain that begins on this map.
     pub(crate) fn new(map: Vec<u8>) -> Chain {
@@ -163,14 +172,7 @@ impl Chain {
         let Some(last) = &self.last else {
             return Ok(());
         };
-        let before = Before {
-            map: &self.map,
-            site: match &self.site {
-                Some(file) => Some(file.lent()),
-                None => None,
-            },
-            trace: &last.trace,
-        };
+        let before = lent_before(&self.map, &self.site, &last.trace);
         match changed_map(rt.alloc(), before, site.lent(), trace) {
             Ok(map) => {
                 self.map = map.into_bytes();

@@ -2,7 +2,8 @@
 
 use crate::chapters::{keep_chapter, keep_text};
 use crate::ends::{MOST_MAP_BYTES, complain, file_bytes};
-use crate::folder::{Found, Start, complain_of_folder, hold_folder};
+use crate::folder::{Found, Start, hold_folder};
+use crate::folder_line::complain_of_folder;
 use crate::kept_file::KeptFile;
 use crate::recovering::recover;
 use crate::sites::site_name;
@@ -16,8 +17,8 @@ use std::io::{self, ErrorKind, Write};
 /// Why what the changes make was not written.
 #[derive(Drop)]
 enum Unwritten {
-    File(String, io::Error),
     /// The file of this name cannot be written.
+    File(String, io::Error),
     NoMemory,
 }
 
@@ -119,27 +120,14 @@ fn texts_of<'a>(
     ChangeTexts { map, site, kept }
 }
 
-/// Changes the site of the folder that was found.
-fn change_found<R: Files + Alloc<A = Global>, W: Write, E: Write>(
+/// Makes the changes of these texts, and writes what they make unless it is only to be said. Returns the status.
+fn change_texts<R: Files + Alloc<A = Global>, W: Write, E: Write>(
     rt: &R,
     change: &ChangeJob,
-    found: Found,
+    texts: ChangeTexts<'_>,
     output: &mut W,
     error: &mut E,
 ) -> u8 {
-    let map = match file_bytes(rt, change.map.as_str(), MOST_MAP_BYTES) {
-        Ok(map) => map,
-        Err(fault) => return complain(rt, fault, error),
-    };
-    let folder = change.traces.as_str();
-    let mut said = Vec::new(rt.alloc());
-    let recovered = recover(rt, (map.as_slice(), folder), found, error, &mut said);
-    write_whole(error, &said);
-    let (kept, site) = match recovered {
-        Ok(recovered) => recovered,
-        Err(status) => return status,
-    };
-    let texts = texts_of(&map, &kept, &site);
     let words = (change.changes.as_slice(), change.renumber);
     let changed = match change_site(rt.alloc(), texts, words, (&mut *output, &mut *error)) {
         Ok(changed) => changed,
@@ -157,9 +145,31 @@ fn change_found<R: Files + Alloc<A = Global>, W: Write, E: Write>(
     }
 }
 
-/// Changes the site of a fleet that does not run, after the last chapter in its folder. Returns the status: 0 good, 2 a word
-/// says no change, 3 a file failed, 4 the map is refused, 5 the changes are, 6 no fleet goes on from the folder on this map,
-/// 7 memory ran out.
+/// Changes the site of the folder that was found.
+fn change_found<R: Files + Alloc<A = Global>, W: Write, E: Write>(
+    rt: &R,
+    change: &ChangeJob,
+    found: Found,
+    output: &mut W,
+    error: &mut E,
+) -> u8 {
+    let map = match file_bytes(rt, change.map.as_str(), MOST_MAP_BYTES) {
+        Ok(map) => map,
+        Err(fault) => return complain(rt, fault, error),
+    };
+    let folder = change.traces.as_str();
+    let mut said = Vec::new(rt.alloc());
+    let recovered = recover(rt, (map.as_slice(), folder), found, error, &mut said);
+    write_whole(error, &said);
+    match recovered {
+        Ok((kept, site)) => change_texts(rt, change, texts_of(&map, &kept, &site), output, error),
+        Err(status) => status,
+    }
+}
+
+/// Changes the site of a fleet that does not run, after the last chapter in its folder. Returns the status: 0 good, 2 a
+/// word says no change, 3 a file failed, 4 the map is refused, 5 the changes are, 6 no fleet goes on from the folder on
+/// this map, 7 memory ran out.
 pub(crate) fn run_change<
     R: Files<File = File> + Alloc<A = Global> + Clone + Drop,
     W: Write,

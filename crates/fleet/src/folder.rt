@@ -4,7 +4,7 @@ use crate::journals::{JournalFile, journal_numbers, journals_after};
 use crate::kept_file::{KeptFile, file_of};
 use crate::lock::{lock_folder, try_folder};
 use crate::sites::{remove_unmade, site_until};
-use fleet_lib::{InputFault, NamesFault, fail, last_chapter, write_whole};
+use fleet_lib::{NamesFault, last_chapter, write_whole};
 use std::alloc::{Alloc, AllocError, Global};
 use std::fs::{self, File, Files};
 use std::io::{self, ErrorKind, Write};
@@ -249,77 +249,5 @@ pub(crate) fn hold_folder<R: Files<File = File> + Alloc<A = Global> + Clone + Dr
 pub(crate) fn tell_start<E: Write>(start: Start, found: &Found, error: &mut E) {
     if start != Start::Anew && found.is_nothing() {
         write_whole(error, b"fleet: begins anew\n");
-    }
-}
-
-/// The line that says why a chapter's file in the folder of this name is refused.
-fn chapter_line(alloc: Global, folder: &str, fault: FolderFault) -> Result<String, AllocError> {
-    match fault {
-        FolderFault::Unreadable(name) => {
-            format!(in alloc; "fleet: file {folder}/{name}: no chapter has this name\n")
-        }
-        FolderFault::Missing(number) => format!(in alloc;
-            "fleet: file {folder}/chapter-{number}.json: it is missing, and a later chapter is there\n"
-        ),
-        FolderFault::NoJournal(number) => format!(in alloc;
-            "fleet: file {folder}/chapter-{number}.journal: it is missing, and a later one is there\n"
-        ),
-        FolderFault::Unread(name) => format!(in alloc; "fleet: file {name}: it cannot be read\n"),
-        FolderFault::NoFile(name) => {
-            format!(in alloc; "fleet: file {name}: it is a pipe, a link or a folder\n")
-        }
-        FolderFault::TooLarge(name) => {
-            format!(in alloc; "fleet: file {name}: it has more than 1073741824 bytes\n")
-        }
-        FolderFault::Hollow(name) => {
-            format!(in alloc; "fleet: file {name}: its first or last byte is zero\n")
-        }
-        _ => Err(AllocError),
-    }
-}
-
-/// The line that says why the folder of this name does not take a fleet's chapters.
-fn line_of(alloc: Global, folder: &str, fault: FolderFault) -> Result<String, AllocError> {
-    match fault {
-        FolderFault::NoName => String::from_str(
-            alloc,
-            "error: invalid value for '--traces <DIR>'\n",
-        ),
-        FolderFault::NoFolder(word) => {
-            format!(in alloc; "error: '{word}' needs '--traces <DIR>'\n")
-        }
-        FolderFault::File(why) => {
-            format!(in alloc; "fleet: file {folder} cannot be written: {why}\n")
-        }
-        FolderFault::InUse => format!(in alloc;
-            "fleet: file {folder} is in use by another fleet\n"
-        ),
-        FolderFault::HasChapters => {
-            format!(in alloc; "fleet: file {folder} has chapters of another fleet\n")
-        }
-        FolderFault::NoChapter => format!(in alloc; "fleet: file {folder} has no chapter\n"),
-        fault => chapter_line(alloc, folder, fault),
-    }
-}
-
-/// Whether a word is wrong, and no file.
-fn is_of_words(fault: &FolderFault) -> bool {
-    matches!(fault, FolderFault::NoName | FolderFault::NoFolder(_))
-}
-
-/// Prints why the folder of this name does not take a fleet's chapters. Returns the status.
-pub(crate) fn complain_of_folder<R: Alloc<A = Global>, E: Write>(
-    rt: &R,
-    fault: FolderFault,
-    name: Option<&str>,
-    error: &mut E,
-) -> u8 {
-    let status = if is_of_words(&fault) { 2 } else { 3 };
-    match line_of(rt.alloc(), name.unwrap_or(""), fault) {
-        Ok(line) => {
-            write_whole(error, line.as_bytes());
-            status
-        }
-        Err(AllocError) => fail(InputFault::NoMemory, error),
     }
 }

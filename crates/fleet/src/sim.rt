@@ -11,7 +11,7 @@ use fleet_sim::{Line, Run, Sim, SimFault, Times, line_of};
 use fleet_stats::ranked;
 use std::alloc::{Alloc, AllocError, Global};
 use std::fs::Files;
-use std::io::Write;
+use std::io::{ErrorKind, Write};
 use std::time::{Clock, Instant};
 
 /// Why there is no table.
@@ -154,6 +154,9 @@ fn keep<'a, R: Files + Alloc<A = Global>>(
     let text = trace_line(rt.alloc(), chapter)?;
     match keep_chapter(rt, folder.as_str(), 0, text.as_bytes()) {
         Ok(()) => Ok(()),
+        Err(why) if why.kind() == ErrorKind::OutOfMemory => {
+            Err(Failure::Trouble(SimTrouble::NoMemory))
+        }
         Err(_) => Err(Failure::File(FileFault::Unwritable(folder.as_str()))),
     }
 }

@@ -4,7 +4,8 @@ ghost use Rattle.std.specs.Prelude.{◌≡◌, ◌≤◌, vec_len, IfOk};
 
 use crate::chapters::TraceFolder;
 use crate::ends::{FileFault, MOST_MAP_BYTES, complain, file_bytes};
-use crate::folder::{Found, Start, complain_of_folder, hold_folder, tell_start};
+use crate::folder::{Found, Start, hold_folder, tell_start};
+use crate::folder_line::complain_of_folder;
 use crate::kept_file::KeptFile;
 use crate::recovering::recover;
 use crate::troubles::Troubles;
