@@ -1,5 +1,7 @@
 //! Whether waits leave room for the bound on waits, after changes.
 
+ghost use Rattle.std.specs.Prelude.{◌≤◌, vec_len};
+
 use fleet_book::Limits;
 use fleet_core::HookLaws;
 use fleet_grid::Grid;
@@ -9,25 +11,48 @@ use fleet_reopen::{ReopenFault, reopen};
 use std::alloc::{AllocError, Global};
 use std::mem;
 
-/// The laws of the hooks of this program that the robots have: those of `ties south` give other stamps than 0.
+/// The laws of hooks, which go.
+fn laws_alone(alloc: Global, hooks: Hooks) -> Result<HookLaws, AllocError>
+    // Of each call: only a call with a condition may hand on closures.
+    requires { 0 ≤ vec_len hooks.ties }
+{
+    let laws = HookLaws::of(alloc, &hooks);
+    mem::drop(hooks);
+    laws
+}
+
+/// The laws of hooks that give 0.
+fn plain_laws(alloc: Global, robots: usize) -> Result<HookLaws, AllocError> {
+    let hooks = Hooks::alike(
+        alloc,
+        robots,
+        TieHook::fixed([0; 4]),
+        ArrivalHook::fixed(0),
+        Farewell::fixed(0),
+    )?;
+    laws_alone(alloc, hooks)
+}
+
+/// The laws of the hooks of `ties south`.
+fn south_laws(alloc: Global, robots: usize) -> Result<HookLaws, AllocError> {
+    let hooks = Hooks::alike(
+        alloc,
+        robots,
+        TieHook::south_first(),
+        ArrivalHook::by_tick(),
+        Farewell::by_cell(),
+    )?;
+    laws_alone(alloc, hooks)
+}
+
+/// The laws of the hooks of this program that the robots have, all of them the same: those of `ties south` give other stamps
+/// than 0.
 fn laws_of(alloc: Global, opening: &Opening) -> Result<HookLaws, AllocError> {
-    let mut hooks = Hooks::new(alloc);
-    for robot in opening.robots.as_slice() {
-        if robot.arrival_law.high == 0 {
-            hooks.push(
-                TieHook::fixed([0; 4]),
-                ArrivalHook::fixed(0),
-                Farewell::fixed(0),
-            )?;
-        } else {
-            hooks.push(
-                TieHook::south_first(),
-                ArrivalHook::by_tick(),
-                Farewell::by_cell(),
-            )?;
-        }
+    let robots = opening.robots.as_slice();
+    match robots.first() {
+        Some(robot) if robot.arrival_law.high != 0 => south_laws(alloc, robots.len()),
+        _ => plain_laws(alloc, robots.len()),
     }
-    HookLaws::of(alloc, &hooks)
 }
 
 /// The widest limits of a fleet with this opening.
