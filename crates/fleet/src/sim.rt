@@ -2,6 +2,7 @@
 
 use crate::chapters::keep_chapter;
 use crate::ends::{FileFault, MOST_MAP_BYTES, complain, file_bytes};
+use fleet_hooks::{ArrivalHook, Farewell, Hooks, TieHook};
 use fleet_lib::{
     InputFault, MOST_PLAN_BYTES, Played, Said, SimJob, SimPlan, SimRun, SimTrouble, answer_sim,
     answer_trouble, complain_of_sim, end_sim, fail, open_sim, sim_plan, tell, trace_line,
@@ -133,9 +134,12 @@ fn run_of<R: Alloc<A = Global> + Clock>(
     run: SimRun,
     timed: bool,
 ) -> Result<(Played, Option<Times>), SimTrouble> {
-    let mut sim = open_sim(rt.alloc(), &texts.map, texts.cells.as_deref(), run)?;
+    let alloc = rt.alloc();
+    let (tie, arrival) = (TieHook::fixed([0; 4]), ArrivalHook::fixed(0));
+    let hooks = Hooks::alike(alloc, run.robots as usize, tie, arrival, Farewell::fixed(0))?;
+    let mut sim = open_sim(alloc, &texts.map, texts.cells.as_deref(), run, hooks)?;
     let measured = play(rt, &mut sim, plan, timed);
-    let played = end_sim(rt.alloc(), sim, u64::from(plan.warm_up));
+    let played = end_sim(alloc, sim, u64::from(plan.warm_up));
     match measured {
         Ok(measured) => Ok((played?, times_of(measured, timed))),
         Err(fault) => Err(trouble_of(run.robots, fault)),

@@ -1,12 +1,13 @@
 //! Runs of the word `sim`, and their table.
 
-ghost use Rattle.std.specs.Prelude.{◌≡◌, IfOk, string_bytes};
+ghost use Rattle.std.specs.Prelude.{◌≡◌, ◌≤◌, vec_len, IfOk, string_bytes};
 ghost use Rattle.fleet_lib.specs.Said.{said_of};
 ghost use Rattle.fleet_lib.specs.Sim.{IsFloorOf, IsPlayed, trouble_status, trouble_text, troubled};
 
 use crate::check::{printed, refused};
 use crate::said::Said;
 use fleet_grid::Grid;
+use fleet_hooks::Hooks;
 use fleet_map::{MapFault, read_map};
 use fleet_sim::{Ended, Line, Setting, Sim, SimFault, TableForm, table_text};
 use fleet_stats::{LaterFigures, StatsFault, figures_after};
@@ -105,7 +106,9 @@ fn sim_on(
     grid: Grid,
     stations: &Option<Vec<u32>>,
     run: SimRun,
+    hooks: Hooks,
 ) -> Result<Sim, SimTrouble>
+    requires { 0 ≤ vec_len hooks.ties }
     ensures { IfOk result (λ s. s.world.core.floor ≡ grid) }
 {
     let stations = match stations {
@@ -119,13 +122,13 @@ fn sim_on(
         roomy: run.roomy,
         stations,
     };
-    match Sim::open(alloc, grid, setting) {
+    match Sim::open(alloc, grid, setting, hooks) {
         Ok(sim) => Ok(sim),
         Err(fault) => Err(trouble_of(run.robots, fault)),
     }
 }
 
-/// Opens a run on the map of a text, with errands to the cells of a list, if there is one.
+/// Opens a run on the map of a text, with errands to the cells of a list, if there is one. There are hooks for its robots.
 ///
 /// Refused in this order: no map, a line of the list that names no floor cells, fewer floor cells than robots, no turns on
 /// this map; memory may run out in between.
@@ -134,13 +137,23 @@ pub fn open_sim(
     map: &[u8],
     cells: Option<&[u8]>,
     run: SimRun,
+    hooks: Hooks,
 ) -> Result<Sim, SimTrouble>
+    // Of each call: only a call with a condition may hand on closures.
+    requires { 0 ≤ vec_len hooks.ties }
     ensures { IfOk result (λ s. IsFloorOf map.now s.world.core.floor) }
 {
-    let grid = grid_of(alloc, map)?;
-    match stations_of(alloc, &grid, cells) {
-        Ok(stations) => sim_on(alloc, grid, &stations, run),
+    let grid = match grid_of(alloc, map) {
+        Ok(grid) => grid,
         Err(trouble) => {
+            mem::drop(hooks);
+            return Err(trouble);
+        }
+    };
+    match stations_of(alloc, &grid, cells) {
+        Ok(stations) => sim_on(alloc, grid, &stations, run, hooks),
+        Err(trouble) => {
+            mem::drop(hooks);
             mem::drop(grid);
             Err(trouble)
         }

@@ -1,6 +1,6 @@
 //! A run whose robots always have one errand.
 
-ghost use Rattle.std.specs.Prelude.{◌≡◌, ◌≤◌, ◌⊎◌, [], IfOk, IfErr, IfSome, OnOk, OnErr, None, Some};
+ghost use Rattle.std.specs.Prelude.{◌≡◌, ◌≤◌, ◌⊎◌, [], vec_len, IfOk, IfErr, IfSome, OnOk, OnErr, None, Some};
 ghost use Rattle.fleet_core.specs.Core.{Ticks};
 ghost use Rattle.fleet_core.specs.declared.faults.TickReport.{TickReport};
 ghost use Rattle.fleet_sim.specs.Sim.{IsEnd, IsSet, IsUnset};
@@ -13,7 +13,6 @@ use crate::starts::starts_of;
 use fleet_book::{Limits, Notice, Order};
 use fleet_core::{Chapter, Hooks, TakeFault, TickFault, World};
 use fleet_grid::Grid;
-use fleet_hooks::{ArrivalHook, Farewell, TieHook};
 use mover::Manner;
 use rand_core::SeedableRng;
 use rand_xoshiro::Xoshiro256PlusPlus;
@@ -83,23 +82,18 @@ fn begin_of(alloc: Global, grid: &Grid, setting: Setting<'_>) -> Result<Begin, A
     })
 }
 
-/// A world of robots that start on these cells, with ties by the order of the directions.
-fn world_of(alloc: Global, grid: Grid, starts: Vec<u32>) -> Result<World, SimFault>
+/// A world of robots that start on these cells.
+fn world_of(alloc: Global, grid: Grid, starts: Vec<u32>, hooks: Hooks) -> Result<World, SimFault>
+    // Of each call: only a call with a condition may hand on closures.
+    requires { 0 ≤ vec_len hooks.ties }
     ensures floor { IfOk result (λ w. w.core.floor ≡ grid) }
     ensures entries { IfOk result (λ w. w.core.history.entries ≡ []) }
     ensures fault { IfErr result (λ f. f ≡ SimFault.NoMemory) }
 {
-    let (tie, arrival) = (TieHook::fixed([0; 4]), ArrivalHook::fixed(0));
-    match Hooks::alike(alloc, starts.len(), tie, arrival, Farewell::fixed(0)) {
-        Ok(hooks) => match World::open(alloc, grid, starts, 1, LIMITS, hooks) {
-            Ok(world) => Ok(world),
-            // The starts are distinct floor cells and there are hooks for all robots, so only memory is left.
-            Err(_) => Err(SimFault::NoMemory),
-        },
-        Err(AllocError) => {
-            mem::drop(grid);
-            Err(SimFault::NoMemory)
-        }
+    match World::open(alloc, grid, starts, 1, LIMITS, hooks) {
+        Ok(world) => Ok(world),
+        // The starts are distinct floor cells, so with hooks for all robots only memory is left.
+        Err(_) => Err(SimFault::NoMemory),
     }
 }
 
@@ -124,11 +118,18 @@ fn planned(world: World, how: Manner) -> Result<World, SimFault>
 }
 
 /// The world of a begin, on its map.
-fn opened(alloc: Global, grid: Grid, starts: Vec<u32>, how: Manner) -> Result<World, SimFault>
+fn opened(
+    alloc: Global,
+    grid: Grid,
+    starts: Vec<u32>,
+    how: Manner,
+    hooks: Hooks,
+) -> Result<World, SimFault>
+    requires { 0 ≤ vec_len hooks.ties }
     ensures floor { IfOk result (λ w. w.core.floor ≡ grid) }
     ensures fault { IfErr result (λ f. (f ≡ SimFault.NoMemory) ⊎ ((f ≡ SimFault.Turns) × (how ≡ manner.Turns))) }
 {
-    match world_of(alloc, grid, starts) {
+    match world_of(alloc, grid, starts, hooks) {
         Ok(world) => planned(world, how),
         Err(fault) => Err(fault),
     }
@@ -159,15 +160,23 @@ fn send(world: &mut World, robot: u32, cell: u32) -> Result<(), SimFault>
 }
 
 impl Sim {
-    /// Opens a run on a map: the robots stand on distinct random floor cells, and have no errands yet.
+    /// Opens a run on a map: the robots stand on distinct random floor cells, and have no errands yet. There are hooks for
+    /// as many robots.
     ///
     /// Refused in this order: not 1 to 512 robots, fewer floor cells than robots, out of memory, no turns on this map.
-    pub fn open(alloc: Global, grid: Grid, setting: Setting<'_>) -> Result<Sim, SimFault>
+    pub fn open(
+        alloc: Global,
+        grid: Grid,
+        setting: Setting<'_>,
+        hooks: Hooks,
+    ) -> Result<Sim, SimFault>
+        requires { 0 ≤ vec_len hooks.ties }
         ensures set { OnOk result (IsSet grid setting.entry.robots) }
         ensures floor { IfOk result (λ s. s.world.core.floor ≡ grid) }
         ensures fault { IfErr result (IsUnset grid setting.entry.robots setting.entry.manner) }
     {
         if let Some(fault) = setting_fault(&grid, setting) {
+            mem::drop(hooks);
             mem::drop(grid);
             return Err(fault);
         }
@@ -178,7 +187,7 @@ impl Sim {
                     goals,
                     random,
                 },
-            ) => match opened(alloc, grid, starts, setting.manner) {
+            ) => match opened(alloc, grid, starts, setting.manner, hooks) {
                 Ok(world) => Ok(Sim {
                     world,
                     random,
@@ -187,6 +196,7 @@ impl Sim {
                 Err(fault) => Err(fault),
             },
             Err(AllocError) => {
+                mem::drop(hooks);
                 mem::drop(grid);
                 Err(SimFault::NoMemory)
             }

@@ -1,6 +1,7 @@
 //! A table of two runs.
 
 use fleet_grid::Grid;
+use fleet_hooks::{ArrivalHook, Farewell, Hooks, TieHook};
 use fleet_map::MapText;
 use fleet_sim::{Line, Run, Setting, Sim, TableForm, line_of, table_text};
 use fleet_stats::{LaterFigures, figures_after};
@@ -38,7 +39,9 @@ fn figures_of(
         roomy: false,
         stations,
     };
-    let mut sim = Sim::open(alloc, hall(rt, alloc), setting).expect(rt, "a run");
+    let (tie, arrival) = (TieHook::fixed([0; 4]), ArrivalHook::fixed(0));
+    let hooks = Hooks::alike(alloc, 3, tie, arrival, Farewell::fixed(0)).expect(rt, "hooks");
+    let mut sim = Sim::open(alloc, hall(rt, alloc), setting, hooks).expect(rt, "a run");
     sim.begin().expect(rt, "errands");
     for _ in 0..TICKS {
         sim.tick(rt).expect(rt, "a tick");
