@@ -8,6 +8,9 @@
 //! 6 7 8
 //! ```
 
+ghost use Rattle.fleet_map.specs.Form.{HasSides};
+ghost use Rattle.fleet_map.specs.Grammar.{view};
+
 use crate::texts::{AGAIN, HELD, record_of};
 use fleet_history::Chapter;
 use fleet_hooks::StampLaw;
@@ -37,7 +40,9 @@ const THIRD: &str =
 
 const LAW: StampLaw = StampLaw { low: 0, high: 0 };
 
-fn map_of(rt: &(impl Alloc<A = Global> + Abort), text: &str) -> MapText {
+fn map_of(rt: &(impl Alloc<A = Global> + Abort), text: &str) -> MapText
+    ensures { HasSides (view result) }
+{
     read_map(rt.alloc(), text.as_bytes()).expect(rt, "a map")
 }
 
