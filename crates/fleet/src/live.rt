@@ -19,6 +19,7 @@ use fleet_lib::{
 use std::alloc::{Alloc, AllocError, Global};
 use std::fs::{File, Files, OpenOptions};
 use std::io::{self, Read, Write};
+use std::mem;
 use std::os::unix::fs::{FileTypeExt, MetadataExt};
 use std::sync::Wait;
 use std::thread::Threads;
@@ -195,15 +196,22 @@ pub(crate) fn hold_live<
         .iter()
         .all(|word| pipe_names(word.as_str()).is_some())
     {
+        mem::drop(found);
         return complain_of_pipes(rt.alloc(), PipeFault::NoPipes, said);
     }
     let (map, script) = match texts_for(rt, live, said) {
         Ok(texts) => texts,
-        Err(status) => return status,
+        Err(status) => {
+            mem::drop(found);
+            return status;
+        }
     };
     let pipes = match pipes_of(rt, &live.pipes, error) {
         Ok(pipes) => pipes,
-        Err(fault) => return complain_of_pipes(rt.alloc(), fault, said),
+        Err(fault) => {
+            mem::drop(found);
+            return complain_of_pipes(rt.alloc(), fault, said);
+        }
     };
     let (kept, recalls) = match past_of(rt, (live, map.as_slice()), found, (error, said)) {
         Ok(past) => past,
