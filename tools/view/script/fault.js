@@ -126,7 +126,7 @@ function faultText(fault) {
   return `illegal ${where}: it breaks rule ${fault.rule}, ${RULES[fault.rule] ?? 'unknown'}${detail}`;
 }
 
-// So many conflicts are listed.
+// The most that are listed.
 const MOST_CONFLICTS = 20000;
 
 function conflictsText(count) {
