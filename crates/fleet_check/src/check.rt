@@ -1,7 +1,7 @@
 //! The first fault of a step, looked for in the order of the faults.
 
 ghost use Rattle.std.specs.Prelude.{◌≡◌, ◌≢◌, ◌≤◌, ◌<◌, ◌⊎◌, ℕ, ◌↔◌, ◌^◌, length, slice_index, OnOk, IfErr, IsTrue, MatchOption, MatchResult};
-ghost use Rattle.fleet_grid.specs.Floor.{IsFloor, IsNeighbour, IsNeighbourIn};
+ghost use Rattle.fleet_grid.specs.Floor.{IsFloor, IsNeighbour};
 ghost use Rattle.fleet_grid.specs.Step.{IsPlacement, IsConflictFree};
 ghost use Rattle.fleet_check.specs.Fault.{IsFirst, IsFirstPair, IsRefusal, Moves, ShareCell, Exchange};
 ghost use Rattle.fleet_check.specs.inside.Seats.{AreSeats, IsPartner, IsSeatFault};
@@ -9,7 +9,7 @@ ghost use Rattle.std.specs.Ordering.{nat_cmp};
 ghost use Rattle.std.specs.BTreeMap.{get};
 
 use crate::fault::StepFault;
-use fleet_grid::{Dir, Grid};
+use fleet_grid::Grid;
 use std::alloc::{Allocator, Global};
 use std::collections::BTreeMap;
 
@@ -25,31 +25,11 @@ pub(crate) fn first_off_floor<B: Allocator + Copy>(grid: &Grid<B>, to: &[u32]) -
     None
 }
 
-/// Whether an edge leads in that direction from the one cell to the other.
-fn leads<B: Allocator + Copy>(grid: &Grid<B>, dir: Dir, from: u32, to: u32) -> bool
-    ensures { IsTrue result ↔ IsNeighbourIn grid.now dir from to }
-{
-    match grid.neighbour(from, dir) {
-        Some(next) => next == to,
-        None => false,
-    }
-}
-
-/// Whether an edge leads from the one cell to the other.
-fn is_edge<B: Allocator + Copy>(grid: &Grid<B>, from: u32, to: u32) -> bool
-    ensures { IsTrue result ↔ IsNeighbour grid.now from to }
-{
-    leads(grid, Dir::North, from, to)
-        || leads(grid, Dir::East, from, to)
-        || leads(grid, Dir::South, from, to)
-        || leads(grid, Dir::West, from, to)
-}
-
 /// Whether a robot stays or crosses an edge.
 fn moves<B: Allocator + Copy>(grid: &Grid<B>, from: u32, to: u32) -> bool
     ensures { IsTrue result ↔ ((to ≡ from) ⊎ IsNeighbour grid.now from to) }
 {
-    to == from || is_edge(grid, from, to)
+    to == from || grid.has_edge(from, to)
 }
 
 /// The first robot that neither stays nor crosses an edge.

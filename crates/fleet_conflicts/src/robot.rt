@@ -5,34 +5,20 @@ ghost use Rattle.std.specs.Ordering.{nat_cmp};
 ghost use Rattle.std.specs.BTreeMap.{get};
 ghost use Rattle.fleet_check.specs.Fault.{Moves};
 ghost use Rattle.fleet_check.specs.inside.Seats.{IsSeat};
-ghost use Rattle.fleet_grid.specs.Floor.{IsFloor, IsNeighbour, IsNeighbourIn};
+ghost use Rattle.fleet_grid.specs.Floor.{IsFloor, IsNeighbour};
 ghost use Rattle.fleet_conflicts.specs.Conflicts.{Shares, Swaps, IsPart, IsPair, OfRobot};
 
 use crate::seats::seat_at;
 use fleet_check::StepFault;
-use fleet_grid::{Dir, Grid};
+use fleet_grid::Grid;
 use std::alloc::{AllocError, Global};
 use std::collections::BTreeMap;
-
-/// Whether an edge leads in that direction from the one cell to the other.
-fn leads(grid: &Grid, dir: Dir, from: u32, to: u32) -> bool
-    ensures { IsTrue result ↔ IsNeighbourIn grid.now dir from to }
-{
-    match grid.neighbour(from, dir) {
-        Some(next) => next == to,
-        None => false,
-    }
-}
 
 /// Whether a robot stays or crosses an edge.
 fn moves(grid: &Grid, from: u32, to: u32) -> bool
     ensures { IsTrue result ↔ ((to ≡ from) ⊎ IsNeighbour grid.now from to) }
 {
-    to == from
-        || leads(grid, Dir::North, from, to)
-        || leads(grid, Dir::East, from, to)
-        || leads(grid, Dir::South, from, to)
-        || leads(grid, Dir::West, from, to)
+    to == from || grid.has_edge(from, to)
 }
 
 /// The first robot that comes to the robot's cell, if it has a lesser number.

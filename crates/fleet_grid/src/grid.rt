@@ -107,6 +107,26 @@ impl<A: Allocator + Copy> Grid<A> {
         self.cells.neighbour(cell, dir)
     }
 
+    /// Whether the floor cell next to a cell in that direction is this one.
+    fn leads(&self, dir: Dir, from: u32, to: u32) -> bool
+        ensures { IsTrue result ↔ IsNeighbourIn self.now dir from to }
+    {
+        match self.neighbour(from, dir) {
+            Some(next) => next == to,
+            None => false,
+        }
+    }
+
+    /// Whether an edge leads from the one cell to the other: they are floor and share a side.
+    pub fn has_edge(&self, from: u32, to: u32) -> bool
+        ensures { IsTrue result ↔ IsNeighbour self.now from to }
+    {
+        self.leads(Dir::North, from, to)
+            || self.leads(Dir::East, from, to)
+            || self.leads(Dir::South, from, to)
+            || self.leads(Dir::West, from, to)
+    }
+
     /// The padded form, in which a search needs no test for the edges of the map: the length of its rows, and its
     /// places.
     pub fn padded(&self) -> (u32, &[u32])

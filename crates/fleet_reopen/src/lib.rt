@@ -2,7 +2,6 @@
 //! is opened.
 #![tactic(auto)]
 
-mod after;
 mod bound;
 mod fault;
 mod law;

@@ -8,7 +8,6 @@ ghost use Rattle.fleet_history.specs.Next.{next_opening};
 ghost use Rattle.fleet_reopen.specs.Reopening.{CanReopen, IsReopenFault, reopened_world};
 ghost use Rattle.fleet_reopen.specs.inside.Followed.{IsFit, IsMisfit};
 
-use crate::after::state_after;
 use crate::bound::is_within_bound;
 use crate::fault::ReopenFault;
 use crate::within::{are_limits_at, is_counted};
@@ -17,7 +16,7 @@ use fleet_core::{Core, HookLaws, World};
 use fleet_grid::Grid;
 use fleet_history::{Chapter, Opening};
 use fleet_hooks::Hooks;
-use fleet_trace::{JudgeFault, judge};
+use fleet_trace::{JudgeFault, judge, state_after};
 use std::alloc::{AllocError, Allocator};
 
 /// Why a legal chapter, limits and laws do not go together, as far as the entries need not be gone through.

@@ -1,7 +1,7 @@
 //! The faults of what a step is asked for.
 
 ghost use Rattle.std.specs.Prelude.{◌≡◌, ◌⊎◌, ◌↔◌, ℕ, ◌*◌, ◌<◌, ◌≤◌, length, slice_index, IsTrue, MatchOption, OnOk, IfErr};
-ghost use Rattle.fleet_grid.specs.Floor.{IsFloor, IsNeighbour, IsNeighbourIn};
+ghost use Rattle.fleet_grid.specs.Floor.{IsFloor, IsNeighbour};
 ghost use Rattle.fleet_shield.specs.Wishes.{wishes, IsNear, AreSound};
 ghost use Rattle.fleet_shield.specs.Fault.{IsFirstNot, IsKnown, AllNear, IsFault};
 ghost use Rattle.fleet_shield.specs.declared.refusal.Refusal.TheVariants.{Outside, Wall};
@@ -10,7 +10,7 @@ ghost use Rattle.fleet_shield.specs.inside.Entered.{IsEntered};
 use crate::preferences::Preferences;
 use crate::refusal::Refusal;
 use crate::seats::enter_all;
-use fleet_grid::{Dir, Grid};
+use fleet_grid::Grid;
 use std::alloc::Allocator;
 
 /// The first robot that is not on the floor.
@@ -55,31 +55,11 @@ fn first_unknown(order: &[u32]) -> Option<u32>
     None
 }
 
-/// Whether the floor cell next to a cell in that direction is this one.
-fn leads<A: Allocator + Copy>(grid: &Grid<A>, dir: Dir, from: u32, to: u32) -> bool
-    ensures { IsTrue result ↔ IsNeighbourIn grid.now dir from to }
-{
-    match grid.neighbour(from, dir) {
-        Some(next) => next == to,
-        None => false,
-    }
-}
-
-/// Whether an edge leads from the one cell to the other.
-fn is_edge<A: Allocator + Copy>(grid: &Grid<A>, from: u32, to: u32) -> bool
-    ensures { IsTrue result ↔ IsNeighbour grid.now from to }
-{
-    leads(grid, Dir::North, from, to)
-        || leads(grid, Dir::East, from, to)
-        || leads(grid, Dir::South, from, to)
-        || leads(grid, Dir::West, from, to)
-}
-
 /// Whether a robot on the one cell may go to the other.
 fn is_near<A: Allocator + Copy>(grid: &Grid<A>, from: u32, to: u32) -> bool
     ensures { IsTrue result ↔ ((to ≡ from) ⊎ IsNeighbour grid.now from to) }
 {
-    to == from || is_edge(grid, from, to)
+    to == from || grid.has_edge(from, to)
 }
 
 /// The place of the robot's first preference that it cannot go to.

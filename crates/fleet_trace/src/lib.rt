@@ -8,6 +8,7 @@ mod law;
 mod part;
 mod pieces;
 mod read;
+mod replayed;
 mod version;
 mod write;
 
@@ -18,5 +19,6 @@ pub use law::{trace_reads_back, write_and_read};
 pub use part::{FormPart, OpeningPart};
 pub use pieces::{entry_told, opening_told, push_entry, push_opening};
 pub use read::{form_fault, read_trace};
+pub use replayed::state_after;
 pub use version::Version;
 pub use write::write_trace;

@@ -7,6 +7,6 @@ returns-then-to-from g c = (λ t. inl c.if-to-from.true, λ s. eq-eqb c.args.to 
 
 pub returns-else-to-from : goal.returns-else-to-from
 returns-else-to-from g c = (
-  λ t. inr (c.is_edge.ensures.0 t),
-  λ s. elim s [ inl e ↦ absurd (c.if-to-from.false e) | inr n ↦ c.is_edge.ensures.1 n ],
+  λ t. inr (c.has_edge.ensures.0 t),
+  λ s. elim s [ inl e ↦ absurd (c.if-to-from.false e) | inr n ↦ c.has_edge.ensures.1 n ],
 )

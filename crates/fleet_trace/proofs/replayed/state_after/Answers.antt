@@ -3,7 +3,7 @@ use Rattle.std.proofs.Common.{arith, ◌≡◌, ◌≤◌, ℕ}
 use Rattle.fleet_history.specs.History.{history_of}
 use Rattle.fleet_history.proofs.Legal.{legal-opening}
 use Rattle.fleet_state.proofs.Parts.{queue-limit}
-use Rattle.fleet_reopen.proofs.after.state_after.Goals as goal
+use Rattle.fleet_trace.proofs.replayed.state_after.Goals as goal
 
 no_more : (a b : ℕ) → a ≡ b → a ≤ b
 no_more a b is = omega (arith, is)
