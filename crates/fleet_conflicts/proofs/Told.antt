@@ -6,11 +6,11 @@ use Rattle.fleet_grid.specs.Floor.{floor_of_map}
 use Rattle.fleet_plans.specs.declared.answer.PlanAnswer.{PlanAnswer}
 use Rattle.fleet_plans.specs.declared.form.TextForm.{TextForm}
 use Rattle.fleet_plans.specs.declared.study.Study.{Study}
-use Rattle.fleet_plans.specs.Answer.{IsTextAnswer, IsAnswerTo, no_plan, judged, no_map, on_map}
+use Rattle.fleet_plans.specs.Answer.{IsTextAnswer, IsAnswerTo, no_plan, judged, no_map, on_map, is_invalid}
 use Rattle.fleet_plans.specs.Goals.{Nothing}
 use Rattle.fleet_plans.specs.Study.{IsFormStudy, IsStudyBy, unread, read, without_map, with_map}
 use Rattle.fleet_conflicts.specs.declared.conflicts.Conflict.{Conflict}
-use Rattle.fleet_conflicts.specs.Conflicts.{AreConflictsOf, UpTo, is_invalid, not_invalid, invalid}
+use Rattle.fleet_conflicts.specs.Conflicts.{AreConflictsOf, UpTo, not_invalid, invalid}
 
 one_map : (n m : Map) (o : Result Map MapFault) → o ≡ Ok n → o ≡ Ok m → m ≡ n
 one_map n m o first second = let same : Ok n ≡ Ok m = sym first ∙ second in cc

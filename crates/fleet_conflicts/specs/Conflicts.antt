@@ -7,9 +7,8 @@ use Rattle.fleet_check.specs.inside.Seats.{IsSeat}
 use Rattle.fleet_check.specs.declared.fault.StepFault.{StepFault}
 use Rattle.fleet_check.specs.declared.fault.StepFault.TheVariants.{Length, OffFloor, NotAdjacent, Vertex, Swap}
 use Rattle.fleet_plans.specs.declared.answer.PlanAnswer.{PlanAnswer}
-use Rattle.fleet_plans.specs.declared.answer.PlanAnswer.TheVariants as answer
 use Rattle.fleet_plans.specs.declared.form.TextForm.{TextForm}
-use Rattle.fleet_plans.specs.Answer.{IsAnswerTo}
+use Rattle.fleet_plans.specs.Answer.{IsAnswerTo, is_invalid}
 use Rattle.fleet_plans.specs.Goals.{Nothing}
 use Rattle.fleet_plans.specs.Study.{IsFormStudy}
 use Rattle.fleet_plans.specs.Valid.{place_at}
@@ -63,10 +62,6 @@ pub data UpTo (m : Floor) (places : List (List ℕ)) : ℕ → List Conflict →
   no_time : UpTo m places 0 []
   next_time : (time : ℕ) (before : List Conflict) (now : List StepFault) → UpTo m places time before → OfStep m (place_at places (time - 1)) (place_at places time) now
       → UpTo m places (time + 1) (before ++ map (at_time time) now)
-
-abbrev pub is_invalid : PlanAnswer → Bool
-is_invalid (answer.Invalid f) = true
-is_invalid a = false
 
 -- the conflicts of a plan that is read in a form and is not valid; none of any other text
 pub data AreConflictsOf (form : TextForm) (bytes text : List ℕ) (conflicts : List Conflict) : Type 0 where

@@ -4,13 +4,13 @@ ghost use Rattle.std.specs.Prelude.{◌≡◌, ◌≤◌, ◌++◌, IfOk, OnOk, 
 ghost use Rattle.fleet_map.specs.Form.{HasSides};
 ghost use Rattle.fleet_grid.specs.Floor.{floor_of_map};
 ghost use Rattle.fleet_map.specs.Grammar.{view};
-ghost use Rattle.fleet_conflicts.specs.Conflicts.{AreConflictsOf, UpTo, at_time, is_invalid};
+ghost use Rattle.fleet_conflicts.specs.Conflicts.{AreConflictsOf, UpTo, at_time};
 
 use crate::step::faults_of;
 use fleet_check::StepFault;
 use fleet_grid::Grid;
 use fleet_map::{MapText, read_map};
-use fleet_plans::{MOST_PLAN_BYTES, Placements, PlanAnswer, TextForm, study_form};
+use fleet_plans::{MOST_PLAN_BYTES, Placements, TextForm, study_form};
 use std::alloc::{AllocError, Global};
 
 /// What is wrong with the placement at a time, as `fleet check` names it. Of two robots the one with the lesser number
@@ -58,13 +58,6 @@ fn conflicts_on(
     Ok(conflicts)
 }
 
-/// Whether a plan was read and is not valid.
-fn is_invalid(answer: PlanAnswer) -> bool
-    ensures { result ≡ is_invalid answer }
-{
-    matches!(answer, PlanAnswer::Invalid(_))
-}
-
 /// The conflicts of these placements on a map.
 fn conflicts_in(
     alloc: Global,
@@ -90,7 +83,7 @@ pub fn conflicts_of(
     ensures { IfOk result (λ conflicts. AreConflictsOf form bytes.now text.now conflicts.items) }
 {
     let study = study_form(alloc, form, bytes, text)?;
-    if !is_invalid(study.answer) {
+    if !study.answer.is_invalid() {
         return Ok(Vec::new(alloc));
     }
     match read_map(alloc, bytes) {

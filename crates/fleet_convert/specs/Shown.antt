@@ -7,7 +7,7 @@ use Rattle.fleet_map.specs.declared.fault.MapFault.{MapFault}
 use Rattle.fleet_map.specs.Grammar.{Map, map_of}
 use Rattle.fleet_trace.specs.Text.{trace_text}
 use Rattle.fleet_plans.specs.declared.answer.PlanAnswer.{PlanAnswer}
-use Rattle.fleet_plans.specs.declared.answer.PlanAnswer.TheVariants as answer
+use Rattle.fleet_plans.specs.Answer.{is_invalid}
 use Rattle.fleet_plans.specs.Goals.{Nothing}
 use Rattle.fleet_plans.specs.Study.{IsTextStudy}
 use Rattle.fleet_plans.specs.Valid.{place_at}
@@ -24,11 +24,6 @@ are_on count places = list_all (are_cells count) places
 -- the robots are 512 at most, and on the map
 abbrev pub fits : ℕ → List (List ℕ) → Bool
 fits count places = not (nat_lt 512 (length (place_at places 0))) && are_on count places
-
--- a plan was read, and is not valid
-abbrev pub is_invalid : PlanAnswer → Bool
-is_invalid (answer.Invalid f) = true
-is_invalid a = false
 
 abbrev pub IsShownIf : Bool → List (List ℕ) → Option (String Global) → Type 0
 IsShownIf true places (Some text) = string_bytes text ≡ trace_text (plan_trace places)

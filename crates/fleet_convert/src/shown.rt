@@ -2,11 +2,11 @@
 
 ghost use Rattle.std.specs.Prelude.{◌≡◌, ◌≤◌, Ok, length, IfOk};
 ghost use Rattle.fleet_map.specs.Grammar.{view, map_of};
-ghost use Rattle.fleet_convert.specs.Shown.{are_cells, are_on, fits, is_invalid, IsShownAs, IsInvalidShown};
+ghost use Rattle.fleet_convert.specs.Shown.{are_cells, are_on, fits, IsShownAs, IsInvalidShown};
 
 use crate::tracing::{MOST_ROBOTS, chapter_of, map_fault};
 use fleet_map::{MapText, read_map};
-use fleet_plans::{MOST_PLAN_BYTES, Placements, PlanAnswer, Study, study_texts};
+use fleet_plans::{MOST_PLAN_BYTES, Placements, Study, study_texts};
 use fleet_trace::write_trace;
 use std::alloc::{AllocError, Global};
 
@@ -36,18 +36,11 @@ fn fits(count: usize, places: &Placements) -> bool
     places.at(0).len() <= MOST_ROBOTS as usize && are_on(count, places)
 }
 
-/// Whether a plan was read and is not valid.
-fn is_invalid(answer: PlanAnswer) -> bool
-    ensures { result ≡ is_invalid answer }
-{
-    matches!(answer, PlanAnswer::Invalid(_))
-}
-
 /// The text of the trace of a plan that was studied, if it is not valid and fits a map of this many cells.
 fn shown(alloc: Global, count: usize, study: &Study) -> Result<Option<String>, AllocError>
     ensures { IfOk result (IsShownAs count study.now.answer study.now.places) }
 {
-    if !is_invalid(study.answer) || !fits(count, &study.places) {
+    if !study.answer.is_invalid() || !fits(count, &study.places) {
         return Ok(None);
     }
     let chapter = chapter_of(alloc, &study.places)?;

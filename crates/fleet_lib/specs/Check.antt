@@ -18,7 +18,7 @@ use Rattle.fleet_plans.specs.Form.{form_of}
 use Rattle.fleet_plans.specs.Reading.{head_by}
 use Rattle.fleet_plans.specs.Told.{told_text}
 use Rattle.fleet_conflicts.specs.declared.conflicts.Conflict.{Conflict}
-use Rattle.fleet_conflicts.specs.Conflicts.{AreConflictsOf, is_invalid}
+use Rattle.fleet_conflicts.specs.Conflicts.{AreConflictsOf}
 use Rattle.fleet_lib.specs.declared.check.PlanRules.{PlanRules}
 use Rattle.fleet_lib.specs.Said.{Outcome}
 

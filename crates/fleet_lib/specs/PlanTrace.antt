@@ -8,7 +8,8 @@ use Rattle.fleet_plans.specs.Form.{is_plan}
 use Rattle.fleet_convert.specs.declared.tracing.TracingFault.{TracingFault}
 use Rattle.fleet_convert.specs.declared.tracing.TracingFault.TheVariants as fault
 use Rattle.fleet_convert.specs.PlanTrace.{IsTraced, IsUntraced}
-use Rattle.fleet_convert.specs.Shown.{is_invalid, IsInvalidShown}
+use Rattle.fleet_plans.specs.Answer.{is_invalid}
+use Rattle.fleet_convert.specs.Shown.{IsInvalidShown}
 use Rattle.fleet_lib.specs.declared.plan_trace.Traced.{Traced}
 use Rattle.fleet_lib.specs.declared.plan_trace.Traced.TheVariants as told
 use Rattle.fleet_lib.specs.Said.{Outcome, said_of}

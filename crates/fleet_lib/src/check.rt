@@ -3,7 +3,6 @@
 ghost use Rattle.std.specs.Prelude.{◌≡◌, ◌≤◌, ◌++◌, Some, length, string_bytes, IfOk, IfSome, OnOk};
 ghost use Rattle.std.specs.Option.{option_copied};
 ghost use Rattle.fleet_lib.specs.Said.{said_of};
-ghost use Rattle.fleet_conflicts.specs.Conflicts.{is_invalid};
 ghost use Rattle.fleet_lib.specs.Check.{form_by, counted, sized, IsCheckOutcome, AreSaid, IsSaidOf, conflict_text, conflicts_text, good, refused, outcome_of, goals_outcome, noted, invalid_text};
 
 use crate::said::Said;
@@ -195,13 +194,6 @@ fn sized(agents: Option<u32>, answer: PlanAnswer) -> PlanAnswer
     }
 }
 
-/// Whether a plan was read and is not valid.
-fn is_invalid(answer: PlanAnswer) -> bool
-    ensures { result ≡ is_invalid answer }
-{
-    matches!(answer, PlanAnswer::Invalid(_))
-}
-
 /// Writes the line of a conflict.
 fn write_conflict(text: &mut String, conflict: Conflict) -> Result<(), AllocError>
     ensures { OnOk result (string_bytes text.new ≡ string_bytes text.old ++ conflict_text conflict) }
@@ -248,7 +240,7 @@ fn said_in_all(
     requires { length plan.now ≤ MOST_PLAN_BYTES }
     ensures { IfOk result (λ s. IsSaidOf all form map.now plan.now answer (said_of s)) }
 {
-    if all && is_invalid(answer) {
+    if all && answer.is_invalid() {
         return said_of_conflicts(alloc, form, map, plan);
     }
     said_of_answer(alloc, answer)

@@ -37,6 +37,11 @@ IsNamed lines (fault.Lines line_fault.NoMemory) a = ⊥
 IsNamed lines (fault.Lines (line_fault.Line line)) a = a ≡ at_line lines line
 IsNamed lines (fault.Json f) a = (f ≢ told.NoMemory) × (a ≡ answer.Json f)
 
+-- a plan was read, and is not valid
+abbrev pub is_invalid : PlanAnswer → Bool
+is_invalid (answer.Invalid f) = true
+is_invalid a = false
+
 -- ---- a plan that is free of conflicts
 
 abbrev pub or_off_goal : PlanReport → Option GoalFault → PlanAnswer

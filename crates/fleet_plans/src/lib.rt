@@ -12,6 +12,7 @@ mod follow;
 mod form;
 mod goals;
 mod head;
+mod invalid;
 mod judge;
 mod judging;
 mod law;
