@@ -1,4 +1,3 @@
-pub mod Replayed
 pub mod Rooms
 pub mod Far
 pub mod Ends

@@ -9,6 +9,7 @@ pub mod OpeningOrder
 pub mod OpeningParts
 pub mod FormParts
 pub mod EntryByEntry
+pub mod StepByStep
 pub mod LikeOpenings
 pub mod CalmOpening
 pub mod CalmDues

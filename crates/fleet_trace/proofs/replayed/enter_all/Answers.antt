@@ -2,7 +2,7 @@
 use Rattle.std.proofs.Common.{refl, sym}
 use Rattle.fleet_history.specs.History.{start, with_entries}
 use Rattle.fleet_trace.proofs.EntryByEntry.{all_entered}
-use Rattle.fleet_trace.proofs.Replayed.{may-enter, placed-here, entered-here, room-kept}
+use Rattle.fleet_trace.proofs.StepByStep.{may-enter, placed-here, entered-here, room-kept}
 use Rattle.fleet_trace.proofs.replayed.enter_all.Goals as goal
 
 pub enter-requires-clause-may : goal.enter-requires-clause-may
