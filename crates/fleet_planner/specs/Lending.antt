@@ -11,6 +11,7 @@ use Rattle.fleet_planner.specs.declared.lending.Lending.{Lending}
 abbrev pub IsServedFor : (core capacity : List ℕ) → (robots cell : ℕ) → Type 0
 IsServedFor core capacity robots cell = robots ≤ slice_index capacity (slice_index core cell)
 
+-- the robot's goal; `None` where it has none
 abbrev pub goal_at : List (Option ℕ) → ℕ → Option ℕ
 goal_at goals robot = slice_index_or goals robot None
 

@@ -24,6 +24,7 @@ pub data Act : Type 0 where
   -- a client's post is refused, since its cell is not roomy
   refuse : Option (List ℕ) → ℕ → Act
 
+-- what is done at a line that asks this, in order
 abbrev pub acts_asked : Line → Asked → List Act
 acts_asked line Nothing = []
 acts_asked line (Events more) = replicate more.times (play line.mark more.event)
@@ -48,6 +49,7 @@ act_asked line (NoRoom client) = refuse line.mark client
 act_asked line Nothing = say None []
 act_asked line Quit = say None []
 
+-- how many times it is done
 abbrev pub times_asked : Asked → ℕ
 times_asked Nothing = 0
 times_asked (Events more) = more.times

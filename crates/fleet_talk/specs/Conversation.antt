@@ -29,13 +29,15 @@ use Rattle.fleet_talk.specs.Says.{Says}
 
 -- ---- the fleet of a head
 
--- the clients, the limits and the closures' laws that a head gives, and a conversation's own where it says nothing
+-- how many clients a head gives, and 1 where it gives none
 abbrev pub clients_in : Draft → ℕ
 clients_in d = unwrap_or d.clients 1
 
+-- the limits that a head gives, and a conversation's own for the others
 abbrev pub limits_in : Draft → Limits
 limits_in d = limits_over TALK_LIMITS d.limits
 
+-- the laws of the closures that a head chooses, the plain ones if it does not say, for robots with these starts
 abbrev pub laws_in : KitLaws → Draft → List ℕ → HookLaws
 laws_in kit d starts = cut_laws (length starts) (if unwrap_or d.south false then kit.south else kit.plain)
 

@@ -21,5 +21,6 @@ pub record IsFresh {A : Type 0} (w : World A) : Type 0 where
 abbrev pub taking : {A : Type 0} → Option Turns → World A → World A
 taking turns w = record w { turns = turns }
 
+-- the talk, but that the robots of its world take these turns
 abbrev pub in_turns : {A : Type 0} → Option Turns → Talk A → Talk A
 in_turns turns s = record { world = taking turns s.world; clients = s.clients }

@@ -63,14 +63,17 @@ open_text client errands = flat_map (open_line client) errands ++ open_end clien
 
 -- ---- a look
 
+-- the robot that has waited longest; idle where no robot waits
 abbrev pub eldest_text : Option ℕ → List ℕ
 eldest_text None = codes " idle"
 eldest_text (Some robot) = codes " busy eldest " ++ decimal robot
 
+-- after how many ticks the fleet is idle if nothing is ordered; nothing where that is not known
 abbrev pub within_text : Option ℕ → List ℕ
 within_text None = []
 within_text (Some ticks) = codes " within " ++ decimal ticks
 
+-- the cell next to the eldest in the full dead end before which it stands; nothing where it stands before none
 abbrev pub blocked_text : Option ℕ → List ℕ
 blocked_text None = []
 blocked_text (Some cell) = codes " blocked " ++ decimal cell
