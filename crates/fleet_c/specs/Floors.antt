@@ -17,6 +17,7 @@ abbrev pub OfMap : Option HeldValue → Option HeldValue → ℕ → (Floor → 
 OfMap None new code Says = (code ≡ NOT_OPEN) × (new ≡ None)
 OfMap (Some m) new code Says = (new ≡ Some m) × Says m
 
+-- the sides of the map, and how many cells, floor cells and edges it has
 pub record IsShape (m : Floor) (shape : MapShape) : Type 0 where
   pub height : shape.height ≡ m.height
   pub width : shape.width ≡ m.width

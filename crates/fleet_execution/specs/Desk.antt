@@ -34,6 +34,7 @@ pub record HasSameBounds (d e : Desk) : Type 0 where
   pub cells : e.cells ≡ d.cells
   pub ahead : e.ahead ≡ d.ahead
 
+-- the robot of the leave; robot r itself where there is none
 abbrev pub leaver : Option Leave → ℕ → ℕ
 leaver None r = r
 leaver (Some l) r = l.robot

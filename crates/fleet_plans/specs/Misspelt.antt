@@ -9,6 +9,7 @@ use Rattle.fleet_plans.specs.declared.misspelt.KnownKey.{KnownKey}
 use Rattle.fleet_plans.specs.declared.misspelt.KnownKey.TheVariants.{Starts, Goals, Form, Agents, Makespan, SumOfCosts, Solution}
 use Rattle.fleet_plans.specs.declared.misspelt.Misspelt.{Misspelt}
 
+-- the key itself
 abbrev pub known_text : KnownKey → List ℕ
 known_text Starts = codes "starts"
 known_text Goals = codes "goals"
@@ -38,10 +39,12 @@ like_of key =
     else if is_like Solution key then Some Solution
     else None
 
+-- the line of this number, where its key is like one
 abbrev pub like_at : ℕ → Option KnownKey → Option Misspelt
 like_at number None = None
 like_at number (Some key) = Some (record { line = number; key = key })
 
+-- the line of this number, where it has a key that is like one
 abbrev pub like_in : ℕ → Option (List ℕ × List ℕ) → Option Misspelt
 like_in number None = None
 like_in number (Some p) = like_at number (like_of p.0)

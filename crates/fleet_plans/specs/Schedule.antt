@@ -47,6 +47,7 @@ pub record Draft : Type 0 where
   pub trails : Trails
   pub part : Part
 
+-- the paths that were read, and what the last line was
 abbrev pub drafted : Trails → Part → Draft
 drafted t part = record { trails = t; part = part }
 
@@ -64,6 +65,7 @@ abbrev pub with_next : Trails → List ℕ → Option ℕ → Option Draft
 with_next t line (Some column) = Some (drafted t (Column column))
 with_next t line None = with_name t line
 
+-- with one more line, by what the last one was; `None` where it may not stand
 abbrev pub with_scheduled : ℕ → ℕ → Trails → Part → List ℕ → Option Draft
 with_scheduled w h t Begin line = if names 0 line then Some (drafted t Name) else None
 with_scheduled w h t Name line = option_map (λ column. drafted t (Column column)) (column_of line)

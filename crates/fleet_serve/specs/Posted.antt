@@ -126,6 +126,7 @@ pub record IsNew {A : Type 0} (client : ClientView A) (most : ℕ) : Type 0 wher
   pub sent : client.sent ≡ []
   pub orders : client.orders ≡ most
 
+-- no client has sent anything, and each may send this many orders
 abbrev pub AreNew : {A : Type 0} → ℕ → List (ClientView A) → Type 0
 AreNew {A} most cs = (k : ℕ) (x : ClientView A) → slice_get cs k ≡ Some x → IsNew x most
 
