@@ -55,6 +55,7 @@ pub data OfStep (m : Floor) (from to : List ℕ) (faults : List StepFault) : Typ
   uneven : length to ≢ length from → faults ≡ Length ∷ [] → OfStep m from to faults
   even : length to ≡ length from → OfRobots m from to (length to) faults → OfStep m from to faults
 
+-- a fault of the step to this time
 abbrev pub at_time : ℕ → StepFault → Conflict
 at_time time fault = record { time = time; fault = fault }
 
@@ -64,6 +65,7 @@ pub data UpTo (m : Floor) (places : List (List ℕ)) : ℕ → List Conflict →
   next_time : (time : ℕ) (before : List Conflict) (now : List StepFault) → UpTo m places time before → OfStep m (place_at places (time - 1)) (place_at places time) now
       → UpTo m places (time + 1) (before ++ map (at_time time) now)
 
+-- whether a plan was read, and is not valid
 abbrev pub is_invalid : PlanAnswer → Bool
 is_invalid (answer.Invalid f) = true
 is_invalid a = false

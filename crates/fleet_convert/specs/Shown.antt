@@ -30,6 +30,7 @@ abbrev pub is_invalid : PlanAnswer → Bool
 is_invalid (answer.Invalid f) = true
 is_invalid a = false
 
+-- the text is that of the placements' trace if the test passes, or else there is none
 abbrev pub IsShownIf : Bool → List (List ℕ) → Option (String Global) → Type 0
 IsShownIf true places (Some text) = string_bytes text ≡ trace_text (plan_trace places)
 IsShownIf true places None = ⊥

@@ -12,6 +12,7 @@ use Rattle.fleet_trace.specs.declared.fault.TraceFault.{TraceFault}
 use Rattle.fleet_trace.specs.declared.fault.TraceFault.TheVariants as trace_fault
 use Rattle.live_parts.specs.Recalls.{IsCounted, Recalls, recall_of, wants_more, with_before}
 
+-- the number, where it is at most 16,777,216
 abbrev pub few : ℕ → Option ℕ
 few n = if nat_le n 16777216 then Some n else None
 

@@ -59,6 +59,7 @@ first_stage s recalls door who = record {
 abbrev pub IsNew : TextOut → Type 0
 IsNew x = (x.ahead ≡ 0) × (handed x ≡ [])
 
+-- nothing was handed on for any conversation
 abbrev pub AreNew : List TextOut → Type 0
 AreNew texts = AllByRecursion IsNew texts
 

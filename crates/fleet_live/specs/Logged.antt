@@ -21,6 +21,7 @@ pub record LogView : Type 0 where
   pub number : ℕ
   pub entries : ℕ
 
+-- how far a journal of the program is
 abbrev pub log_view : {J : Type 0} → (J → List (ChapterView Global)) → Option J → ℕ → ℕ → LogView
 log_view logged journal number entries = record { logged = option_map logged journal; number = number; entries = entries }
 
@@ -48,6 +49,7 @@ HasAll v before c handed_out = IfSome v.logged (λ logged. (v.number ≡ c.numbe
 
 -- ---- the chapters that wait to be handed on, and the one that goes on
 
+-- the first of the chapters that wait, or else the one that goes on
 abbrev pub first_of : List (ChapterView Global) → ChapterView Global → ChapterView Global
 first_of [] c = c
 first_of (x ∷ xs) c = x
@@ -109,6 +111,7 @@ pub record Logs (s t : Stage) (events : List Heard) (told new_told : ℕ → Lis
 
 -- ---- why it could not be written
 
+-- why a fleet stops whose journal could not be written
 abbrev pub stop_for : SinkFault → Stop
 stop_for File = stop.Sink
 stop_for NoMemory = stop.NoMemory

@@ -8,6 +8,7 @@ use Rattle.live_parts.specs.declared.demand.Demand.TheVariants.{Quit}
 use Rattle.live_parts.specs.declared.demand.Rights.{Rights}
 use Rattle.fleet_live.specs.Taken.{is_line_feed}
 
+-- whether a line asks to end the fleet
 abbrev pub is_quit : Demand → Bool
 is_quit Quit = true
 is_quit _ = false
@@ -20,6 +21,7 @@ ends_fleet rights bytes = is_quit (demand_of rights (line_in 1 bytes).asked (lin
 abbrev pub further : ℕ → ℕ × Bool → ℕ × Bool
 further count found = (count + found.0, found.1)
 
+-- what is found at the end of a line; where there is no whole line, no bytes and no end
 abbrev pub at_line : Option ℕ → (ℕ → ℕ × Bool) → ℕ × Bool
 at_line None found = (0, false)
 at_line (Some len) found = found len

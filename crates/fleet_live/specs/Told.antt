@@ -18,13 +18,16 @@ abbrev pub handed_of : Option TextOut → List ℕ
 handed_of None = []
 handed_of (Some x) = handed x
 
+-- how many bytes of what waits are in the ring already; 0 without a ring
 abbrev pub ahead_of : Option TextOut → ℕ
 ahead_of None = 0
 ahead_of (Some x) = x.ahead
 
+-- what was handed on for the conversation with this number
 abbrev pub handed_at : List TextOut → ℕ → List ℕ
 handed_at texts k = handed_of (slice_get texts k)
 
+-- how many bytes of what waits for the conversation with this number are in its ring already
 abbrev pub ahead_at : List TextOut → ℕ → ℕ
 ahead_at texts k = ahead_of (slice_get texts k)
 

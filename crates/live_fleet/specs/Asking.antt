@@ -58,6 +58,7 @@ pub data TurnsChapter (k : ℕ) (sp : Speaker) (mark : Option (List ℕ)) (s : S
   handed : HandsOut s.at true acts t.at → (left : Rest) → IsKeeping mark s.at.fleet.talk.world.number (length s.at.fleet.talk.world.history.entries) left → t ≡ with_rest (with_at s t.at) k sp left → TurnsChapter k sp mark s acts t
   last : IsLast s.at.fleet.talk.world → Answers k sp (marked mark chapter_refused_line) s acts t → TurnsChapter k sp mark s acts t
 
+-- what is done at what a line wants of the keeper
 abbrev pub Grants : ℕ → Speaker → Option (List ℕ) → Wanted → Stage → List Act → Stage → Type 0
 Grants k sp mark (wanted.Shut robot) s acts t = ShutsOne k sp mark robot s acts t
 Grants k sp mark wanted.Look s acts t = (text : List ℕ) × IsLook s.at.fleet.talk.world text × Answers k sp (marked mark text) s acts t

@@ -85,11 +85,12 @@ IsToldRight whose _ = Unit {0}
 abbrev pub EachIsToldRight : Type 0
 EachIsToldRight = (s t : Stage) (events : List Heard) (acts : List Act) → Plays s events acts t → AllByRecursion (IsToldRight (clients_in s.speakers)) acts × (clients_in t.speakers ≡ clients_in s.speakers)
 
--- the notices of a client that acts tell, in order
+-- the notice of a client that an act tells, if it tells one
 abbrev pub notice_told : ℕ → Act → List Notice
 notice_told c (told to client notice) = if client == c then notice ∷ [] else []
 notice_told c _ = []
 
+-- the notices of a client that acts tell, in order
 abbrev pub notices_told : ℕ → List Act → List Notice
 notices_told c acts = flat_map (notice_told c) acts
 

@@ -15,6 +15,7 @@ abbrev pub note_or : Option Note → Note
 note_or (Some note) = note
 note_or None = record { closed = false; last = 0 }
 
+-- what is known of the posts of the client with this number
 abbrev pub note_at : List Note → ℕ → Note
 note_at notes client = note_or (slice_get notes client)
 
@@ -28,9 +29,11 @@ standing_at notes recalls client = record {
   closed = (note_at notes client).closed || (recall_of recalls client).closed;
 }
 
+-- whether a client is closed, as one word
 abbrev pub closed_word : Bool → List ℕ
 closed_word closed = if closed then codes "true" else codes "false"
 
+-- the line of how far the fleet is with a client
 abbrev pub session_line : Standing → List ℕ
 session_line x =
     codes "session " ++ (decimal x.client ++ (codes " orders " ++ (decimal x.orders ++ (codes " notices " ++ (decimal x.told

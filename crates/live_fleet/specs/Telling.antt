@@ -45,6 +45,7 @@ ComesTo to client told.One a b = length (text_at a.out to) + 1 ≤ length (text_
 ComesTo to client told.All a b = (clients b.fleet.talk.world.history ≤ client) ⊎ FindsNothing b.fleet.talk client
 ComesTo to client told.Full a b = IsFull (text_at b.out to)
 
+-- a client's next notice was told to a conversation, or there is none, or no room for it
 pub record TellsNext (to client : ℕ) (told : Told) (a : At) (acts : List Act) (b : At) : Type 0 where
   pub went : Went a acts b
   pub only : AllByRecursion (IsTelling to client) acts
@@ -78,6 +79,7 @@ abbrev pub TellsWhere : Bool → ℕ → Clients → At → List Act → At → 
 TellsWhere true to who a acts b = TellsClients to who a acts b
 TellsWhere false to who a acts b = (acts ≡ []) × (b ≡ a)
 
+-- a conversation was told the notices of its clients, if it may be told any now
 abbrev pub TellsTo : Speaker → ℕ → At → List Act → At → Type 0
 TellsTo sp to a acts b = TellsWhere (is_open sp.rest) to sp.clients a acts b
 

@@ -34,6 +34,7 @@ is_ticked _ = false
 abbrev pub place_line : Talk Global → List ℕ
 place_line s = tick_line (clock s.world.history) (place s.world.history)
 
+-- what is answered to who asked for a turn: why there was none, or where the robots stand
 abbrev pub tick_answer : Talk Global → Reply → List ℕ
 tick_answer s (TickRefused fault) = tick_refused_line fault
 tick_answer s reply = place_line s
@@ -52,6 +53,7 @@ abbrev pub SaysThat : Bool → ℕ → List ℕ → At → List Act → At → T
 SaysThat true to text a acts b = Fits (text_at a.out to) (length text) × (acts ≡ said to text ∷ []) × Went a acts b
 SaysThat false to text a acts b = (Fits (text_at a.out to) (length text) → ⊥) × (acts ≡ []) × (b ≡ a)
 
+-- a text was said to a conversation if it had room
 abbrev pub SaysIfRoom : ℕ → List ℕ → At → List Act → At → Type 0
 SaysIfRoom to text a acts b = (is : Bool) × SaysThat is to text a acts b
 
@@ -60,9 +62,11 @@ abbrev pub ShowsWhere : Bool → List ℕ → ℕ → At → List Act → At →
 ShowsWhere true text to a acts b = SaysIfRoom to text a acts b
 ShowsWhere false text to a acts b = (acts ≡ []) × (b ≡ a)
 
+-- a text was shown to this conversation if it watches and may be told more now
 abbrev pub ShowsTo : List ℕ → Speaker → ℕ → At → List Act → At → Type 0
 ShowsTo text sp to a acts b = ShowsWhere (sp.watching && is_open sp.rest) text to a acts b
 
+-- a text was shown to the conversation with this number, if it is there
 abbrev pub ShowsAt : List ℕ → List Speaker → ℕ → At → List Act → At → Type 0
 ShowsAt text who to a acts b = MatchOption (slice_get who to) ((acts ≡ []) × (b ≡ a)) (λ sp. ShowsTo text sp to a acts b)
 

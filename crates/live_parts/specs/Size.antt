@@ -19,6 +19,7 @@ tick_bytes robots cells = capped 128 (product robots (length (decimal cells) + 1
 abbrev pub arrived_bytes : ℕ → ℕ
 arrived_bytes arrived = arrived * 104
 
+-- this many orders
 abbrev pub order_bytes : ℕ → ℕ
 order_bytes orders = orders * 96
 
