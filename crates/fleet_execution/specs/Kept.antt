@@ -24,6 +24,7 @@ pub record Kept : Type 0 where
   pub leaves : List (Option Leave)
   -- each robot whose next move may begin, or one of its cycle, and maybe more
   pub ready : List ℕ
+  -- the cycle whose moves have begun, and were not all returned
   pub turning : Option Turning
 
 -- a robot that does not exist

@@ -12,6 +12,7 @@ use Rattle.fleet_refit.specs.declared.seat.Standing.TheVariants.{Moving, Held, G
 pub record SiteView (A : Type 0) : Type 0 where
   pub map : Floor
   pub tick : ℕ
+  -- how many errands a robot may have, and how many a client may have accepted
   pub queue : ℕ
   pub life : ℕ
   pub clients : List ClientState

@@ -102,7 +102,9 @@ turns_in words = option_and_then (λ n. if nat_le 1 n then Some n else None) (on
 pub record Draft : Type 0 where
   pub starts : Option (List ℕ)
   pub clients : Option ℕ
+  -- whether the southern closures rank the cells
   pub south : Option Bool
+  -- of each ticker, in a serve
   pub turns : Option ℕ
   pub limits : GivenLimits
   pub events : List Event
@@ -207,6 +209,7 @@ pub record Plan : Type 0 where
   -- of each ticker, in a serve
   pub turns : ℕ
   pub events : List Event
+  -- the line of each event
   pub lines : List ℕ
 
 -- the script of these lines, with these start cells and a default for all else that they do not say

@@ -19,7 +19,7 @@ cell_text nothing Nothing = nothing
 
 -- ---- a figure of one run, in thousandths
 
--- thousandths are at most 2^64 - 1, to which no run comes; there are none of a quotient by 0
+-- a quotient in thousandths, at most 2^64 - 1, to which no run comes; none by 0
 abbrev pub quotient : ℕ → ℕ → Option ℕ
 quotient n by = if by == 0 then None else Some (min (n * 1000 / by) (2 ^ 64 - 1))
 
@@ -61,7 +61,7 @@ value_if (Some n) = n ∷ []
 abbrev pub values_of : Column → List Run → List ℕ
 values_of column runs = flat_map (λ run. value_if (value_of column run)) runs
 
--- sums stay at 2^64 - 1, and those of squares at 2^128 - 1
+-- the mean, rounded down; the sum stays at 2^64 - 1
 abbrev pub mean_of : List ℕ → ℕ
 mean_of xs = fold (λ sum x. min (sum + x) (2 ^ 64 - 1)) 0 xs / max (length xs) 1
 
@@ -69,7 +69,7 @@ mean_of xs = fold (λ sum x. min (sum + x) (2 ^ 64 - 1)) 0 xs / max (length xs) 
 abbrev pub apart : ℕ → ℕ → ℕ
 apart a b = if nat_lt a b then b - a else a - b
 
--- the sum of the squares of the differences from a number
+-- the sum of the squares of the differences from a number; it stays at 2^128 - 1
 abbrev pub square_sum : List ℕ → ℕ → ℕ
 square_sum xs from = fold (λ sum x. min (sum + apart x from * apart x from) (2 ^ 128 - 1)) 0 xs
 

@@ -115,7 +115,7 @@ IsUnopened kit m asked starts d other = ⊥
 
 -- ---- how one ends
 
--- what a sink had kept before, and what it has kept now
+-- what a sink had kept before, and what it has kept now, where that is known
 pub record KeptChapters : Type 0 where
   pub old : Option (List (ChapterView Global))
   pub new : Option (List (ChapterView Global))

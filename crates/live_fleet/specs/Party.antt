@@ -36,6 +36,7 @@ pub record Stage : Type 0 where
   pub notes : List Note
   -- no turn can follow
   pub is_over : Bool
+  -- the end was heard
   pub has_ended : Bool
 
 -- a party of the program with its outboxes, without where their lists lie in memory
