@@ -105,7 +105,7 @@ pub record HasReached (e : Kept) (robot code : ℕ) (before after : Motion) (n :
 
 -- ---- views
 
--- the same in C's words: of a robot that is not under way, the cell on which it stands is the one for which it is bound
+-- where a robot is, in C's words: if it is not under way, it is bound for the cell on which it stands
 pub record IsWhere (s : Standing) (w : Whereabouts) : Type 0 where
   pub cell : w.cell ≡ s.cell
   pub left : w.left ≡ s.left

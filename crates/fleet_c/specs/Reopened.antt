@@ -92,7 +92,7 @@ pub record GoesOnRoomily {A : Type 0} (m : Floor) (text : List ℕ) (robots : Li
   pub goes_on : GoesOnFrom m text robots setup w
   pub roomy : AreOpenRoomy m w.history
 
--- the same, where no unfinished errand leads to a cell that is not roomy
+-- the texts are a map and a chapter from which a world goes on, with no unfinished errand to a cell that is not roomy
 pub record IsReopenedRoomily {A : Type 0} (bytes text : List ℕ) (robots : List Robot) (setup : Setup) (w : World A) : Type 0 where
   pub sized : IsSized setup
   pub floor : Floor

@@ -17,7 +17,7 @@ use Rattle.fleet_convert.specs.PlanTrace.{plan_trace}
 abbrev pub are_cells : ℕ → List ℕ → Bool
 are_cells count cells = list_all (λ cell. nat_lt cell count) cells
 
--- it has the cells of each placement
+-- a map of this many cells has those of each placement
 abbrev pub are_on : ℕ → List (List ℕ) → Bool
 are_on count places = list_all (are_cells count) places
 

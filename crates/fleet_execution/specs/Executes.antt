@@ -92,7 +92,7 @@ count_below (suc n) p = (if p n then 1 else 0) + count_below n p
 abbrev pub changes : Plan → ℕ → ℕ → Bool
 changes plan t r = not (plan.cell t r == plan.cell (t - 1) r)
 
--- and has not reached the new one
+-- whether robot r changes its cell in step t, and has not reached the new one
 abbrev pub is_open : Plan → (ℕ → ℕ) → ℕ → ℕ → Bool
 is_open plan reached t r = changes plan t r && nat_lt (reached r) t
 

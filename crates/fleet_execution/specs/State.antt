@@ -36,7 +36,7 @@ pub record IsSized {A : Type 0} (s : State A) : Type 0 where
   pub marks : length s.marks ≡ length s.leaves
   pub small : length s.leaves < 4294967296
 
--- it keeps to some plan
+-- the lists are long enough, and what they have is that of some course
 pub record IsSound {A : Type 0} (s : State A) : Type 0 where
   pub sized : IsSized s
   pub course : Course

@@ -14,7 +14,7 @@ chapter_name n = codes "chapter-" ++ (decimal n ++ codes ".json")
 abbrev pub IsLikeName : List ℕ → Type 0
 IsLikeName name = (middle : List ℕ) × (name ≡ codes "chapter-" ++ (middle ++ codes ".json"))
 
--- it is that of none
+-- a name is that of no chapter
 abbrev pub IsNoName : List ℕ → Type 0
 IsNoName name = (n : ℕ) → n < 2 ^ 32 → name ≢ chapter_name n
 

@@ -31,6 +31,6 @@ abbrev pub quit_in : ℕ → Rights → List ℕ → ℕ × Bool
 quit_in zero rights bytes = (0, false)
 quit_in (suc lines) rights bytes = at_line (position is_line_feed bytes) (λ len. if ends_fleet rights (take len bytes) then (0, true) else further (len + 1) (quit_in lines rights (drop (len + 1) bytes)))
 
--- the same from a byte on, where the bytes before it have none
+-- the same for bytes that are searched from this one on, where those before have no line that ends the fleet
 abbrev pub quit_from : Rights → List ℕ → ℕ → ℕ × Bool
 quit_from rights bytes from = further (min from (length bytes)) (quit_in (length bytes) rights (drop (min from (length bytes)) bytes))

@@ -13,7 +13,7 @@ pub record HandsText (old new : TextOut) (text new_text : List ℕ) : Type 0 whe
   pub told : told_in_all (handed new) new.ahead new_text ≡ told_in_all (handed old) old.ahead text
   pub within : new.ahead ≤ length new_text
 
--- by conversation
+-- what was handed on for a conversation; nothing for one that there is not
 abbrev pub handed_of : Option TextOut → List ℕ
 handed_of None = []
 handed_of (Some x) = handed x

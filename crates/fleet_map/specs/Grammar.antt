@@ -36,7 +36,7 @@ abbrev pub Shows : {X Y : Type 0} → (X → Y) → Result X MapFault → Result
 Shows see (Ok x) read = read ≡ Ok (see x)
 Shows see (Err e) read = read ≡ Err e
 
--- the same, unless memory ran out
+-- what a function returned, seen by see, is what reading gives, unless memory ran out
 abbrev pub Gives : {X Y : Type 0} → (X → Y) → Result X MapFault → Result Y MapFault → Type 0
 Gives see (Ok x) read = read ≡ Ok (see x)
 Gives see (Err e) read = Fails e read

@@ -28,7 +28,7 @@ abbrev pub first_of : Option ℕ → Option ℕ → Option ℕ
 first_of (Some goal) shared = Some goal
 first_of None shared = shared
 
--- the same, robot by robot
+-- each robot's goal: that of its own field, or else that of the shared one
 abbrev pub merged : List (Option ℕ) → List (Option ℕ) → List (Option ℕ)
 merged own [] = []
 merged [] (s ∷ shared) = s ∷ shared

@@ -36,7 +36,7 @@ abbrev pub cells_led : ℕ → ℕ → ℕ → List (List ℕ) → Option (List 
 cells_led w h lead [] = Some []
 cells_led w h lead (part ∷ parts) = option_and_then (λ c. option_map (λ cs. c ∷ cs) (cells_led w h 62 parts)) (led_cell w h lead part)
 
--- without the arrow at the end
+-- the text without the arrow at its end
 abbrev pub without_arrow : List ℕ → List ℕ
 without_arrow text = if bytes_eq (drop (length text - 2) text) (codes "->") then take (length text - 2) text else text
 

@@ -19,7 +19,7 @@ known_text Makespan = codes "makespan"
 known_text SumOfCosts = codes "soc"
 known_text Solution = codes "solution"
 
--- without an s at the end
+-- the word without an s at its end
 abbrev pub without_s : List ℕ → List ℕ
 without_s word = if (slice_index word (length word - 1) == 115) || (slice_index word (length word - 1) == 83) then take (length word - 1) word else word
 
@@ -54,6 +54,6 @@ unfoldable pub misspelt_of : ℕ → List (List ℕ) → Option Misspelt
 misspelt_of number [] = None
 misspelt_of number (line ∷ lines) = if bytes_eq line (codes "solution=") then None else option_or (like_in number (split_once 61 line)) (misspelt_of (number + 1) lines)
 
--- as it is said
+-- what is said of such a line
 abbrev pub misspelt_text : Misspelt → List ℕ
 misspelt_text m = codes "line " ++ (decimal m.line ++ (codes " is ignored, its key is like " ++ known_text m.key))

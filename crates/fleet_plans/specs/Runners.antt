@@ -127,7 +127,7 @@ has_size robots (Some d) = says_count robots (long_in d)
 abbrev pub walked_from : List ℕ → List (List ℕ) → Source
 walked_from starts tracks = record { goals = None; solution = Walked starts tracks }
 
--- as many robots as starts, where a number is named
+-- a plan of moves, if it has as many robots as starts, where a number is named
 abbrev pub sized : List ℕ → Data → Result (List (List ℕ)) RunnersFault → Result Source RunnersFault
 sized starts d told = if has_size (length starts) (get (codes "teamSize") d) then if_told told (λ tracks. Ok (walked_from starts tracks)) else Err (Key TeamSize)
 
@@ -141,7 +141,7 @@ abbrev pub tracks_by : RunnersKey → Bool → ℕ → List Dir → Data → Res
 tracks_by key false robots dirs d = paths_in key robots d
 tracks_by key true robots dirs d = turned_paths key dirs d
 
--- by whether robots turn
+-- the plan that a value is, by whether robots turn
 abbrev pub runners_by : RunnersKey → ℕ → ℕ → Data → Option Bool → Result Source RunnersFault
 runners_by key w h d None = Err (Key ActionModel)
 runners_by key w h d (Some turns) = if_told (starts_in w h d) (λ starts. if_told (dirs_by turns d) (λ dirs. sized starts d (tracks_by key turns (length starts) dirs d)))

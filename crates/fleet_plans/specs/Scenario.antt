@@ -45,7 +45,7 @@ pub record Trips : Type 0 where
 abbrev pub with_trip : Trips → Trip → Trips
 with_trip trips trip = record { starts = trips.starts ++ trip.start ∷ []; goals = trips.goals ++ trip.goal ∷ [] }
 
--- those of the lines numbered from this one on, after these; or the number of the first line that says none
+-- the starts and goals of the lines numbered from this one on, after these; or the number of the first line without
 unfoldable pub trips_of : ℕ → ℕ → Trips → ℕ → List (List ℕ) → Result Trips ℕ
 trips_of w h trips number [] = Ok trips
 trips_of w h trips number (line ∷ lines) = and_then (or_line number (trip_in w h line)) (λ trip. trips_of w h (with_trip trips trip) (number + 1) lines)

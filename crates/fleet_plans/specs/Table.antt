@@ -76,11 +76,11 @@ with_numbers t agent time cell =
     else if is_number (length t.whole + 1) agent && is_number 0 time then with_robot t cell
     else None
 
--- with the cell that the words of a line say
+-- the paths with the cell that the words of a line say
 abbrev pub with_fields : ℕ → ℕ → Trails → Fields → Option Trails
 with_fields w h t f = option_and_then (with_numbers t (number_of f.agent) (number_of f.time)) (cell_of w h f.column f.row)
 
--- with one more line
+-- the paths with one more line
 abbrev pub with_row : ℕ → ℕ → Trails → List ℕ → Option Trails
 with_row w h t line = option_and_then (with_fields w h t) (fields_of line)
 

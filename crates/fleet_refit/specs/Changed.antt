@@ -51,15 +51,15 @@ pub record Replaces {A : Type 0} (Becomes : Seat A → Seat A → Type 0) (s : S
   pub becomes : Becomes old new
   pub is : t ≡ with_seats s (slice_set s.seats robot new)
 
--- it takes part in another way
+-- the robot takes part in another way
 abbrev pub Stands : {A : Type 0} → Standing → Seat A → Seat A → Type 0
 Stands standing x y = y ≡ seat_of standing x.robot
 
--- it is taken away, and its errands are dropped
+-- the robot is taken away, and its errands are dropped
 abbrev pub Leaves : {A : Type 0} → ℕ → List Dropped → Seat A → Seat A → Type 0
 Leaves robot dropped x y = (y ≡ seat_of standing.Gone (emptied x.robot)) × (dropped ≡ map (dropped_of robot) x.robot.errands)
 
--- it was carried to the cell
+-- the robot was carried to the cell
 abbrev pub ComesTo : {A : Type 0} → ℕ → Seat A → Seat A → Type 0
 ComesTo cell x y = y ≡ seat_of x.standing (on_cell cell x.robot)
 

@@ -57,7 +57,7 @@ abbrev pub value_if : Option ℕ → List ℕ
 value_if None = []
 value_if (Some n) = n ∷ []
 
--- those of the runs that have the figure
+-- a figure of the runs that have it
 abbrev pub values_of : Column → List Run → List ℕ
 values_of column runs = flat_map (λ run. value_if (value_of column run)) runs
 
@@ -77,7 +77,7 @@ square_sum xs from = fold (λ sum x. min (sum + apart x from * apart x from) (2 
 abbrev pub variance_of : List ℕ → ℕ
 variance_of xs = square_sum xs (mean_of xs) / max (length xs - 1) 1
 
--- its root, rounded down
+-- the root of the variance, rounded down
 pub record IsDeviation (xs : List ℕ) (r : ℕ) : Type 0 where
   pub low : r * r ≤ variance_of xs
   pub high : variance_of xs < (r + 1) * (r + 1)

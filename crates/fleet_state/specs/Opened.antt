@@ -16,7 +16,7 @@ use Rattle.fleet_state.specs.Robots.{Robots}
 abbrev pub errands_in : {A : Type 0} → List (RobotState A) → ℕ → List Errand
 errands_in robots r = slice_index_or (map (λ x. x.errands) robots) r []
 
--- they lie in a queue with the robot's room
+-- the errands of a robot, in a queue with its room
 abbrev pub queue_in : {A : Type 0} → List ℕ → List (RobotState A) → ℕ → Queue
 queue_in rooms robots r = record { items = errands_in robots r; capacity = slice_index rooms r }
 

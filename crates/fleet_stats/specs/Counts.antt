@@ -70,7 +70,7 @@ arrival_count h = sum_by arrivals_shown h.entries
 abbrev pub over : {A : Type 0} → (History A → ℕ) → List (Trace A) → ℕ
 over f ts = sum_by (λ t. f t.history) ts
 
--- that of the last chapter
+-- a number of the last chapter; 0 without chapters
 abbrev pub at_end : {A : Type 0} → (History A → ℕ) → List (Trace A) → ℕ
 at_end f [] = 0
 at_end f (t ∷ []) = f t.history

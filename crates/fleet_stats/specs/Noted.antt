@@ -198,7 +198,7 @@ entries_noted h n = noted (start h.opening) h.entries n
 abbrev pub left_by : ℕ → Errand → Left
 left_by r e = record { client = e.client; number = e.number; robot = r; cell = e.cell }
 
--- the same of an errand, where there is one
+-- an errand that is left in the robot's queue, where there is one
 abbrev pub left_if : ℕ → Option Errand → List Left
 left_if r None = []
 left_if r (Some e) = left_by r e ∷ []

@@ -30,7 +30,7 @@ clients_in (t ∷ ts) = t.history.opening.clients
 abbrev pub times_of : List Taken → ℕ → List ℕ
 times_of taken c = map (λ x. x.tick) (filter (λ x. x.client == c) taken)
 
--- those of each client
+-- the clocks at which errands were accepted, by client
 abbrev pub all_times : List Taken → ℕ → List (List ℕ)
 all_times taken clients = map (times_of taken) (range_with_len 0 clients)
 

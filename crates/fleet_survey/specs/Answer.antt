@@ -36,7 +36,7 @@ pub record IsListed (m : Floor) (text : List ℕ) (l : Listed) : Type 0 where
   pub count : l.count ≡ length cells
   pub greatest : IsGreatestFor m cells l.roomy_for
 
--- the same, if there is a list
+-- how many cells the list has, and for how many robots all are roomy, if there is a list
 abbrev pub AreListed : Floor → Option (List ℕ) → Option Listed → Type 0
 AreListed m None None = Unit {0}
 AreListed m None (Some l) = ⊥

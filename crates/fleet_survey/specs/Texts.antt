@@ -40,7 +40,7 @@ mouth_text (Some mouth) = decimal mouth
 abbrev pub few_text : List ℕ → List ℕ
 few_text cells = if nat_le (length cells) FEW then codes " cells" ++ flat_map blank_and cells else []
 
--- its mouth and its size
+-- the mouth and the size of a dead end
 abbrev pub end_head : Option ℕ → ℕ → List ℕ
 end_head mouth size = codes "dead_end mouth " ++ (mouth_text mouth ++ (codes " size " ++ decimal size))
 

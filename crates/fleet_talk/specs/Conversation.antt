@@ -60,11 +60,11 @@ MayOpen on o = CanOpen on.floor o.starts (clients_in o.head) (limits_in o.head) 
 abbrev pub opened : {A : Type 0} → Terms → Opening → Option Turns → Fleet A
 opened on o turns = opened_fleet (in_turns turns (opened_talk on.floor o.starts (clients_in o.head) (limits_in o.head) (laws_in on.kit o.head o.starts)))
 
--- they are those of the manner that is asked for: none where it is the plain one
+-- the turns are those of the manner that is asked for: none where it is the plain one
 abbrev pub Takes : Terms → Opening → Option Turns → Type 0
 Takes on o turns = AreTaken {A = Global} on.settings.manner (opened on o None).talk.world turns
 
--- posts to exactly these cells are refused in it
+-- posts to exactly these cells are refused in the fleet
 abbrev pub Refuses : Terms → Opening → List Bool → Type 0
 Refuses on o cells = AreRefused on.settings.roomy on.floor (length o.starts) cells
 

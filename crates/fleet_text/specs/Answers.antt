@@ -53,7 +53,7 @@ open_line client e =
     codes "open " ++ (decimal client ++ (codes " number " ++ (decimal e.number ++ (codes " robot " ++ (decimal e.robot
     ++ (codes " cell " ++ (decimal e.cell ++ (codes " place " ++ (decimal e.place ++ codes "\n")))))))))
 
--- how many they are
+-- how many open errands there are
 abbrev pub open_end : ℕ → ℕ → List ℕ
 open_end client count = codes "open " ++ (decimal client ++ (codes " end " ++ (decimal count ++ codes "\n")))
 
@@ -82,6 +82,6 @@ blocked_text (Some cell) = codes " blocked " ++ decimal cell
 abbrev pub standing_text : Standing → List ℕ
 standing_text s = codes "look tick " ++ decimal s.tick ++ codes " chapter " ++ decimal s.chapter ++ codes " entries " ++ decimal s.entries
 
--- then who has waited longest, within how many ticks all is done, before which full dead end it stands, and the cells
+-- all of a look: who has waited longest, when all is done, before which full dead end it stands, and the robots' cells
 abbrev pub look_line : Standing → List ℕ → List ℕ
 look_line s cells = standing_text s ++ eldest_text s.eldest ++ within_text s.within ++ blocked_text s.blocked ++ codes " at" ++ place_text cells ++ codes "\n"

@@ -64,7 +64,7 @@ waiting s c = slice_index_or s.clients c none_waiting
 abbrev pub mailbox : {A : Type 0} → Talk A → ℕ → List Notice
 mailbox s c = (pending s.world c).notices
 
--- the same with another world, and with what waits of one client
+-- the talk with another world, and with this waiting of one client
 abbrev pub with_waiting : {A : Type 0} → World A → Talk A → ℕ → Waiting → Talk A
 with_waiting w s c l = record { world = w; clients = slice_set s.clients c l }
 

@@ -32,7 +32,7 @@ pub record Shuts (robot : ℕ) (text : List ℕ) (a : At) (acts : List Act) (b :
   pub step : StepsOn (Shut robot) reply a acts b
   pub is : text ≡ shut_text robot done
 
--- and that is answered
+-- a robot was shut, and what that came to is answered
 pub record ShutsOne (k : ℕ) (sp : Speaker) (mark : Option (List ℕ)) (robot : ℕ) (s : Stage) (acts : List Act) (t : Stage) : Type 0 where
   pub text : List ℕ
   pub first : List Act

@@ -66,7 +66,7 @@ HearsOpen k sp mark client s acts t = IfOwn (is_own sp.clients s.clients client)
 abbrev pub HearsSession : ℕ → Speaker → Option (List ℕ) → ℕ → Stage → List Act → Stage → Type 0
 HearsSession k sp mark client s acts t = IfOwn (is_own sp.clients s.clients client) (Answers k sp (marked mark (session_line (standing_at s.notes s.at.fleet.recalls client))) s acts t) k sp mark client s acts t
 
--- or once more what it was told after the notice of this number
+-- a client that comes again is told once more what it was told after the notice of this number
 abbrev pub HearsSince : ℕ → Speaker → Option (List ℕ) → (client seq : ℕ) → Stage → List Act → Stage → Type 0
 HearsSince k sp mark client seq s acts t = IfOwn (is_own sp.clients s.clients client) (Answers k sp (marked mark (since_text s.at.fleet.recalls (mark_len mark) client seq)) s acts t) k sp mark client s acts t
 

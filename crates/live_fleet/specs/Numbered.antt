@@ -41,7 +41,7 @@ RefusesCell k sp mark client s acts t = Answers k sp (marked mark (no_room_line 
 abbrev pub PostsLetIn : ℕ → Speaker → Option (List ℕ) → ℕ → Order → Stage → List Act → Stage → Type 0
 PostsLetIn k sp mark client order s acts t = MatchBool (is_let_in s.door.refused order) (Posts k sp mark client order s acts t) (RefusesCell k sp mark client s acts t)
 
--- and before that, if its number is the one of its client's next order
+-- an order is posted if its number is that of its client's next one, and posts to its cell are not refused
 abbrev pub PostsAs : ℕ → Speaker → Option (List ℕ) → Numbered → Stage → List Act → Stage → Type 0
 PostsAs k sp mark post s acts t =
     MatchBool (next_order s.notes post.client == post.number) (PostsLetIn k sp mark post.client post.order s acts t) (RefusesNumber k sp mark post.client s acts t)

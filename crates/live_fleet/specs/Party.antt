@@ -79,15 +79,15 @@ heard_of cue.Due = due
 heard_of (cue.Kept chapter) = kept chapter
 heard_of cue.End = end
 
--- the same with another fleet
+-- the stage with another fleet
 abbrev pub with_at : Stage → At → Stage
 with_at s at = record s { at = at }
 
--- the same where other texts and chapters wait
+-- the stage where other texts and chapters wait
 abbrev pub with_out : Stage → Out → Stage
 with_out s out = with_at s (record { fleet = s.at.fleet; out = out })
 
--- the same with another state of one conversation
+-- the stage with another state of one conversation
 abbrev pub with_speaker : Stage → ℕ → Speaker → Stage
 with_speaker s k sp = record s { speakers = slice_set s.speakers k sp }
 
@@ -95,7 +95,7 @@ with_speaker s k sp = record s { speakers = slice_set s.speakers k sp }
 abbrev pub resting : Speaker → Rest → Speaker
 resting sp left = record sp { rest = left }
 
--- the same with this left of one conversation's answer
+-- the stage with this left of one conversation's answer
 abbrev pub with_rest : Stage → ℕ → Speaker → Rest → Stage
 with_rest s k sp left = with_speaker s k (resting sp left)
 

@@ -79,7 +79,7 @@ abbrev pub count_in : Rows → ℕ
 count_in (Errands client errands) = length errands.items
 count_in (Robots robots) = length robots.items
 
--- under its mark
+-- the next line of a list, under its mark
 abbrev pub line_of : Listing → List ℕ
 line_of list = marked (mark_kept list.mark) (row_line list.rows list.listed)
 
@@ -147,7 +147,7 @@ KeptAt number k s acts t = (sp : Speaker) × (slice_get s.speakers k ≡ Some sp
 abbrev pub NotesKept : ℕ → Stage → List Act → Stage → Type 0
 NotesKept number s acts t = Each (KeptAt number) (range_with_len 0 (length s.speakers)) s acts t
 
--- the same of its answer
+-- the answer of a conversation that waits for this chapter is said
 abbrev pub KeptIn : Rest → ℕ → ℕ → Out → Out → Rest → Type 0
 KeptIn (rest.Keeping mark n entries) number k old new left =
     MatchBool (n == number) (AnswersIn k (marked (mark_kept mark) (chapter_line n entries)) old new left) ((new ≡ old) × (left ≡ rest.Keeping mark n entries))

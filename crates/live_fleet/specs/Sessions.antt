@@ -60,6 +60,6 @@ since_end client count = codes "since " ++ (decimal client ++ (codes " end " ++ 
 abbrev pub again_text : ℕ → List Notice → List ℕ
 again_text client notices = flat_map (notice_line client) notices ++ since_end client (length notices)
 
--- those after the notice of this number, of which one answer has 14,336 bytes and the line in which they end
+-- the notices after the one of this number: of their lines one answer has 14,336 bytes, and the line that ends them
 abbrev pub since_text : Recalls → (mark client seq : ℕ) → List ℕ
 since_text recalls mark client seq = again_text client (told_again mark client 14336 (later_than seq (recall_of recalls client).notices))

@@ -70,7 +70,7 @@ numbers_of c = range_with_len c.first (c.end - c.first)
 abbrev pub TellsClients : ℕ → Clients → At → List Act → At → Type 0
 TellsClients to who a acts b = Each (λ client a acts b. (all : Bool) × TellsOne to client all a acts b) (numbers_of who) a acts b
 
--- all notices of each of them
+-- a conversation was told all notices of each of these clients
 abbrev pub TellsWhole : ℕ → Clients → At → List Act → At → Type 0
 TellsWhole to who a acts b = Each (λ client a acts b. TellsOne to client true a acts b) (numbers_of who) a acts b
 
@@ -83,7 +83,7 @@ TellsWhere false to who a acts b = (acts ≡ []) × (b ≡ a)
 abbrev pub TellsTo : Speaker → ℕ → At → List Act → At → Type 0
 TellsTo sp to a acts b = TellsWhere (is_open sp.rest) to sp.clients a acts b
 
--- the same of the conversation with this number, if it is there
+-- the conversation with this number was told so, if it is there
 abbrev pub TellsAt : List Speaker → ℕ → At → List Act → At → Type 0
 TellsAt who to a acts b = MatchOption (slice_get who to) ((acts ≡ []) × (b ≡ a)) (λ sp. TellsTo sp to a acts b)
 

@@ -33,7 +33,7 @@ recall_of s c = recall_at s.clients c
 abbrev pub last_of : {X : Type 0} → ℕ → List X → List X
 last_of most xs = drop (length xs - most) xs
 
--- with one more notice, of which at most `most` are kept
+-- what a client was told with one more notice, of which at most `most` are kept
 abbrev pub with_notice : ℕ → Notice → Recall → Recall
 with_notice most n r = record r { notices = last_of most (r.notices ++ n ∷ []); told = seq_of n }
 
@@ -91,7 +91,7 @@ is_next (Some n) (Some m) = seq_of n + 1 == seq_of m
 abbrev pub leads_to : List Notice → List Notice → Bool
 leads_to before ns = is_next (last_notice before) (slice_get ns 0)
 
--- with notices before those that are kept, as many as there is room for; none if they do not end where those begin
+-- with notices before those that are kept, as many as there is room for; unchanged if they do not end where those begin
 abbrev pub with_before : ℕ → List Notice → Recall → Recall
 with_before most before r = record r { notices = if leads_to before r.notices then last_of most (before ++ r.notices) else r.notices }
 
