@@ -79,12 +79,10 @@ goal_key goals place = min (slice_index goals place * 4294967296 + place) (2 ^ 6
 
 -- ---- rows of errands that are left
 
--- a row of an errand that is left, where the run accepted it, with the clock of its acceptance
 abbrev pub left_if : Option ℕ → Left → List LeftRow
 left_if None x = []
 left_if (Some t) x = record { accepted = t; left = x } ∷ []
 
--- a row of an errand that is left, where the run accepted it, by the clocks of the acceptances
 abbrev pub left_row_of : List ClientState → List (List ℕ) → Left → List LeftRow
 left_row_of clients times x = left_if (accepted_at clients times x.client x.number) x
 

@@ -83,7 +83,6 @@ done_text style s =
     ++ (whole_line style (codes "") (codes "unfinished") s.unfinished
     ++ whole_line style (codes "") (codes "errands") s.service.count))
 
--- mean, median, 95th percentile and greatest of numbers
 abbrev pub spread_text : Style → List ℕ → Spread → List ℕ
 spread_text style group x =
     ratio_line style group (codes "_mean") x.total x.count
@@ -98,7 +97,6 @@ ways_text style s =
     ++ (whole_line style (codes "") (codes "distance") s.distance
     ++ ratio_line style (codes "") (codes "detour") s.steps s.distance)
 
--- the longest wait, the limit of waits, idle robots a tick, moves, and how often robots with errands stood
 abbrev pub robots_text : Style → Summary → List ℕ
 robots_text style s =
     whole_line style (codes "") (codes "longest_wait") s.waited
@@ -165,7 +163,6 @@ errands_head = codes "client,number,robot,cell,accepted,begun,arrived,from,steps
 abbrev pub left_line : LeftRow → List ℕ
 left_line x = decimal x.left.client ++ (codes "," ++ (decimal x.left.number ++ (codes "," ++ (decimal x.left.robot ++ (codes "," ++ (decimal x.left.cell ++ (codes "," ++ (decimal x.accepted ++ codes ",,,,,\n"))))))))
 
--- the table of errands: those that were done, then those that are left
 abbrev pub errands_table : List ErrandRow → List LeftRow → List ℕ
 errands_table rows left = errands_head ++ (flat_map errand_line rows ++ flat_map left_line left)
 
