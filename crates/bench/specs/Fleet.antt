@@ -11,9 +11,11 @@ use Rattle.fleet_pibt.specs.Order.{wait_of}
 abbrev pub field_of : List Aim → List ℕ → ℕ → Option Aim
 field_of fields aims robot = option_and_then (λ k. slice_get fields k) (slice_get aims robot)
 
+-- the goal of a robot's field; `None` where it has no field
 abbrev pub goal_of : List Aim → List ℕ → ℕ → Option ℕ
 goal_of fields aims robot = option_map (λ field. field.goal) (field_of fields aims robot)
 
+-- how far the cell is from that goal; `None` where the robot has no field, or no walk leads there
 abbrev pub distance_of : List Aim → List ℕ → ℕ → ℕ → Option ℕ
 distance_of fields aims robot cell = option_and_then (λ field. slice_index_or field.away cell None) (field_of fields aims robot)
 
@@ -22,6 +24,7 @@ pub record IsWithin (m : Floor) (home cell : ℕ) : Type 0 where
   pub on_floor : IsFloor m cell
   pub joined : IsSome (distance m cell home)
 
+-- each of these cells is floor, and has a distance to `home`
 abbrev pub AreWithin : Floor → ℕ → List ℕ → Type 0
 AreWithin m home cells = (k : ℕ) → k < length cells → IsWithin m home (slice_index cells k)
 

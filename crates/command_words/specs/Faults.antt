@@ -11,6 +11,7 @@ is_request DisplayHelp = true
 is_request DisplayVersion = true
 is_request _ = false
 
+-- whether an error is that of words that are called wrong
 abbrev pub is_mistake : ErrorKind → Bool
 is_mistake kind = not (is_request kind)
 

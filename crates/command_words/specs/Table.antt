@@ -48,6 +48,7 @@ rule_for name (Values value) = values_rule name
 rule_for name (RequiredValue value) = required_value_rule name
 rule_for name (Number value) = number_rule name
 
+-- the rule of an argument of the table
 abbrev pub argument_rule : Argument → Rule
 argument_rule argument = rule_for argument.name.now argument.kind
 

@@ -43,10 +43,12 @@ IsTraceNamed _ = Unit {0}
 
 -- ---- a map alone
 
+-- the map's report, and nothing is wrong
 pub record IsDescribed (m : Floor) (o : Outcome) : Type 0 where
   pub report : IsMapReport m o.output
   pub good : o ≡ good o.output
 
+-- what the text of a map alone comes to
 pub data IsMapOutcome (map : List ℕ) (o : Outcome) : Type 0 where
   refused : (f : MapFault) → map_of map ≡ Err f → o ≡ fault (complaint.Map f) → IsMapOutcome map o
   described : (m : Map) → map_of map ≡ Ok m → IsDescribed (floor_of_map m) o → IsMapOutcome map o
@@ -101,6 +103,7 @@ pub record IsRunText (kit : KitLaws) (trace : Bool) (m : Floor) (plan : Plan) (o
   pub lawful : IsLawfulEnd m last
   pub said : o ≡ run_outcome replies (run_output trace plan.events replies last.world)
 
+-- what the script of a plan comes to on the map, as its trace or as its lines
 pub data IsScriptOutcome (kit : KitLaws) (trace : Bool) (m : Floor) (plan : Plan) (o : Outcome) : Type 0 where
   refused : (f : OpenFault) → IsRefused m plan.starts plan.clients plan.limits (chosen_laws kit plan) f → o ≡ fault (complaint.Opening f) → IsScriptOutcome kit trace m plan o
   ran : IsRunText kit trace m plan o → IsScriptOutcome kit trace m plan o
@@ -118,6 +121,7 @@ pub data IsPartsOutcome (kit : KitLaws) (trace : Bool) (map script : List ℕ) (
 
 -- ---- a bundle
 
+-- what a bundle comes to; without a line `script` the line after the last is at fault
 pub data IsBundleOutcome (kit : KitLaws) (bytes : List ℕ) (o : Outcome) : Type 0 where
   without_script : HasNoScript (lines_of bytes) → o ≡ fault (complaint.Script (length (lines_of bytes) + 1)) → IsBundleOutcome kit bytes o
   split : (map script : List ℕ) → IsBundle bytes map script → IsPartsOutcome kit false map script o → IsBundleOutcome kit bytes o

@@ -18,6 +18,7 @@ pub data Asked : Type 0 where
   judge : Text → Text → Asked
   serve : Text → Text → Asked
 
+-- what the job of the program asks for
 abbrev pub asked : Job → Asked
 asked Bundle = bundle
 asked (Map file) = map (string_bytes file)
@@ -52,6 +53,7 @@ pub data Files : Type 0 where
   one : Text → Files
   two : Text → Text → Files
 
+-- the files of a job, the map first
 abbrev pub files_of : Job → Files
 files_of Bundle = none
 files_of (Map file) = one (string_bytes file)

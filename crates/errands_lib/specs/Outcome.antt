@@ -65,6 +65,7 @@ pub data IsServed (kit : KitLaws) (m : Floor) (plan : Plan) (o : Outcome) : Type
   ended : MayOpen kit m plan → o ≡ fault complaint.Limit → IsServed kit m plan o
   served : (lane_full : ℕ) → MayOpen kit m plan → IsServedText kit m plan lane_full o → IsServed kit m plan o
 
+-- what the script of a plan comes to when it is served on the map
 pub data IsServedScript (kit : KitLaws) (m : Floor) (plan : Plan) (o : Outcome) : Type 0 where
   -- the first line that is no post or collect of a client in range
   other : (at : ℕ) → IsFirstOther plan.clients plan.events at → o ≡ fault (complaint.Script (slice_index plan.lines at)) → IsServedScript kit m plan o
@@ -78,6 +79,7 @@ pub data IsServeOutcome (kit : KitLaws) (map script : List ℕ) (o : Outcome) : 
 
 -- ---- any job, on the text of its first file and that of its second
 
+-- what a job comes to
 abbrev pub IsJobOutcome : KitLaws → Job → List ℕ → List ℕ → Outcome → Type 0
 IsJobOutcome kit job.Bundle first second = IsBundleOutcome kit first
 IsJobOutcome kit (job.Map file) first second = IsMapOutcome first

@@ -21,13 +21,13 @@ pub record IsNext (run : Run) (r t : ℕ) : Type 0 where
   pub begins : run.begun r < t
   pub first : (s : ℕ) → run.begun r < s → s < t → Moves run.plan r s → ⊥
 
--- it may begin: each stay that the plan has on the new cell before has ended
+-- that move may begin: each stay that the plan has on the new cell before has ended
 pub record MayBeginAlone (run : Run) (r t : ℕ) : Type 0 where
   pub free : IsFree run r
   pub next : IsNext run r t
   pub clear : (q e : ℕ) → q < run.plan.robots → e ≤ t → Leaves run.plan q e (run.plan.cell t r) → HasEnded run q e
 
--- it may begin with all that turn with it in a cycle
+-- that move may begin with the moves of all that turn with robot r in a cycle
 pub record MayTurn (run : Run) (r t : ℕ) : Type 0 where
   pub turns : Turns run.plan t r
   pub free : (q : ℕ) → IsMate run.plan t r q → IsFree run q

@@ -65,5 +65,6 @@ MayEnter life _ a = Unit {0}
 abbrev pub IsWithin : ℕ → Account → Type 0
 IsWithin life a = (a.owed ≤ a.accepted) × (a.accepted ≤ life)
 
+-- no client is owed more than it has had accepted, nor has any had more than it may
 abbrev pub AreWithin : ℕ → List Account → Type 0
 AreWithin life accounts = All (IsWithin life) accounts

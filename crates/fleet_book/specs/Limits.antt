@@ -9,6 +9,7 @@ use Rattle.fleet_book.specs.declared.limits.Limits.{Limits}
 abbrev pub IsBetween : ℕ → ℕ → ℕ → Type 0
 IsBetween least most n = (least ≤ n) × (n ≤ most)
 
+-- the name of a limit, by which a script gives it
 abbrev pub name_of : Limit → List ℕ
 name_of Lane = codes "lane"
 name_of Outlet = codes "outlet"
@@ -34,11 +35,13 @@ limit_named name =
     else if bytes_eq name (codes "chapters") then Some Chapters
     else None
 
+-- the least that a limit may be
 abbrev pub least_of : Limit → ℕ
 least_of Mailbox = 2
 least_of Orders = 2
 least_of _ = 1
 
+-- the greatest that a limit may be
 abbrev pub most_of : Limit → ℕ
 most_of Lane = 65536
 most_of Outlet = 65536
@@ -50,6 +53,7 @@ most_of Clock = 2 ^ 48
 most_of Chapter = 16777216
 most_of Chapters = 4294967295
 
+-- what the limit is among these
 abbrev pub value_of : Limits → Limit → ℕ
 value_of l Lane = l.lane
 value_of l Outlet = l.outlet

@@ -8,7 +8,7 @@ use Rattle.fleet_history.specs.History.{History, robots, unfinished}
 abbrev pub longest_queue : List (List Errand) → ℕ
 longest_queue queues = fold max 0 (map length queues)
 
--- that of the robots' queues after a history
+-- the length of the longest of the robots' queues after a history
 abbrev pub longest_after : {A : Type 0} → History A → ℕ
 longest_after h = longest_queue (map (unfinished h) (range_with_len 0 (robots h)))
 

@@ -23,6 +23,7 @@ pub record GoesOn {A : Type 0} (m : Floor) (h : History A) (more : List (Entry A
 abbrev pub tick_count : {A : Type 0} → List (Entry A) → ℕ
 tick_count more = count_by is_tick more
 
+-- whether the entry takes an order
 abbrev pub is_take : {A : Type 0} → Entry A → Bool
 is_take (Take client order verdict) = true
 is_take (Tick to arrived farewells) = false

@@ -61,5 +61,6 @@ pub record AreRoomsBy (m : Floor) (core door mouth size capacity : ℕ → ℕ) 
   pub counted : (c n : ℕ) → IsFloor m c → (n ≤ capacity (core c)) ↔ IsCore (IsNeighbour m) n (core c)
   pub greatest : (c n : ℕ) → IsFloor m c → IsCore (IsNeighbour m) n c → n ≤ capacity (core c)
 
+-- the lists are the rooms of the map, as functions of cells
 abbrev pub AreRooms : {A : Type 0} → Floor → Rooms A → Type 0
 AreRooms m rooms = AreRoomsBy m (slice_index rooms.core.items) (slice_index rooms.door.items) (slice_index rooms.mouth.items) (slice_index rooms.size.items) (slice_index rooms.capacity.items)

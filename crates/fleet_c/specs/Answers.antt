@@ -67,6 +67,7 @@ IsGiven w client code note n = MatchOption (slice_get (pending w client).notices
     ((code ≡ NO_NOTICE) × (n ≡ w))
     (λ notice. (code ≡ DONE) × (note ≡ note_of notice) × (n ≡ without_first w client))
 
+-- the client's first notice is given, where there is such a client
 abbrev pub Gives : {A : Type 0} → World A → ℕ → ℕ → Note → World A → Type 0
 Gives w client code note n = OfKnown (clients w.history) client NO_CLIENT w code n (IsGiven w client code note n)
 
@@ -77,6 +78,7 @@ pub record IsWidened {A : Type 0} (w : World A) (client extra code : ℕ) (n : W
   pub same : code ≢ DONE → n ≡ w
   pub refused : code ≢ DONE → code ≢ TOO_WIDE → code ≡ NO_MEMORY
 
+-- the client's mailbox may hold this much more, where there is such a client
 abbrev pub Widens : {A : Type 0} → World A → ℕ → ℕ → ℕ → World A → Type 0
 Widens w client extra code n = OfKnown (clients w.history) client NO_CLIENT w code n (IsWidened w client extra code n)
 

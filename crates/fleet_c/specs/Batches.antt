@@ -36,6 +36,7 @@ pub record AreGiven {A : Type 0} (w : World A) (client : ℕ) (before after : Li
   pub rest : (k : ℕ) (d : Note) → count ≤ k → slice_index_or after k d ≡ slice_index_or before k d
   pub all : count < length before → notice_after w client count ≡ None
 
+-- the client's notices are given, as many as the list has places for, where there is such a client
 abbrev pub GivesMany : {A : Type 0} → World A → ℕ → ℕ → List Note → List Note → ℕ → World A → Type 0
 GivesMany w client code before after count n =
     OfKnown (clients w.history) client NO_CLIENT w code n ((code ≡ DONE) × AreGiven w client before after count n)
@@ -73,6 +74,7 @@ pub record Lists : Type 0 where
   pub arrivals : List Landing
   pub farewells : List ℕ
 
+-- the three lists that a tick writes, as one
 abbrev pub lists : List ℕ → List Landing → List ℕ → Lists
 lists cells arrivals farewells = record { cells = cells; arrivals = arrivals; farewells = farewells }
 

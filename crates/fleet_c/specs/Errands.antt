@@ -48,6 +48,7 @@ ListsQueue w robot code before after had count =
 
 -- ---- how robots stand
 
+-- the cell of a robot's front for C; NOWHERE where it has no front
 abbrev pub goal_of : Option Errand → ℕ
 goal_of None = NOWHERE
 goal_of (Some e) = e.cell
@@ -56,6 +57,7 @@ goal_of (Some e) = e.cell
 abbrev pub state_of : Bool → Bool → ℕ
 state_of shut busy = if shut then SHUT else if busy then BUSY else FREE
 
+-- how a robot stands, for C: its wait in ticks, 0 where it has no errand
 abbrev pub standing_of : {A : Type 0} → World A → ℕ → Standing
 standing_of w r = record {
   wait = unwrap_or (wait w.history r) 0;

@@ -56,6 +56,7 @@ IsWhy cells placement clearance ahead fault.Window = (is_some (clearance_in clea
 IsWhy cells placement clearance ahead fault.Placement = (is_some (clearance_in clearance) ≡ true) × (0 < ahead) × (IsPlacement cells placement → ⊥)
 IsWhy cells placement clearance ahead fault.NoMemory = Unit {0}
 
+-- the code of why no execution is opened
 abbrev pub opening_code : ExecutionFault → ℕ
 opening_code fault.Clearance = BAD_CLEARANCE
 opening_code fault.Window = BAD_WINDOW
@@ -70,6 +71,7 @@ pub record IsUnopened (cells : ℕ) (placement : List ℕ) (clearance ahead code
 
 -- ---- steps, moves and reports
 
+-- a move that C is told, in the product's words
 abbrev pub move_of : Motion → Move
 move_of m = record { robot = m.robot; from = m.from; to = m.to; tick = m.tick }
 
@@ -103,7 +105,7 @@ pub record HasReached (e : Kept) (robot code : ℕ) (before after : Motion) (n :
 
 -- ---- views
 
--- the same in C's words: of a robot that is not under way, the cell on which it stands is the one for which it is bound
+-- where a robot is, in C's words: if it is not under way, it is bound for the cell on which it stands
 pub record IsWhere (s : Standing) (w : Whereabouts) : Type 0 where
   pub cell : w.cell ≡ s.cell
   pub left : w.left ≡ s.left

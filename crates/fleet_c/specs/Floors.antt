@@ -17,6 +17,7 @@ abbrev pub OfMap : Option HeldValue → Option HeldValue → ℕ → (Floor → 
 OfMap None new code Says = (code ≡ NOT_OPEN) × (new ≡ None)
 OfMap (Some m) new code Says = (new ≡ Some m) × Says m
 
+-- the sides of the map, and how many cells, floor cells and edges it has
 pub record IsShape (m : Floor) (shape : MapShape) : Type 0 where
   pub height : shape.height ≡ m.height
   pub width : shape.width ≡ m.width
@@ -32,7 +33,7 @@ AreOnePart m a b = IsFloor m a × IsFloor m b × AreJoined (IsNeighbour m) a b
 abbrev pub floor_cells : Floor → List ℕ
 floor_cells m = filter (is_floor m) (range_with_len 0 (length m.letters))
 
--- they are told in the first places of the list; or, where it has fewer places, only how many they are
+-- the floor cells are told in the first places of the list; where it has fewer places, only how many they are
 pub record ListsFloor (m : Floor) (code : ℕ) (before after : List ℕ) (count : ℕ) : Type 0 where
   pub counted : count ≡ length (floor_cells m)
   pub short : (code ≡ WRONG_LENGTH) ↔ (length before < length (floor_cells m))

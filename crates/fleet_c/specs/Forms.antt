@@ -21,6 +21,7 @@ use Rattle.fleet_c.specs.declared.landing.Landing.{Landing}
 use Rattle.fleet_c.specs.declared.request.Request.{Request}
 use Rattle.fleet_c.specs.declared.request.TheConstants.{ORDER_GO, ORDER_CLOSE, ORDER_WITHDRAW}
 
+-- the limits that a setup gives
 abbrev pub limits_of : Setup → Limits
 limits_of s = record {
   lane = s.lane;
@@ -34,6 +35,7 @@ limits_of s = record {
   chapters = s.chapters;
 }
 
+-- the cells on which the robots start
 abbrev pub starts_of : List Robot → List ℕ
 starts_of robots = map (λ r. r.cell) robots
 
@@ -45,6 +47,7 @@ laws_of_robots robots = record {
   farewells = map (λ (_ : Robot). exact_stamp 0) robots;
 }
 
+-- a tick for C: its number, and how many robots arrived and said farewell
 abbrev pub report_of : TickReport → Report
 report_of did = record { tick = did.tick; arrived = did.arrived; farewells = did.farewells }
 
@@ -52,6 +55,7 @@ report_of did = record { tick = did.tick; arrived = did.arrived; farewells = did
 abbrev pub plain : ℕ → Judgement
 plain code = record { number = 0; verdict = code }
 
+-- a verdict for C: its code, and the number of an accepted errand, else 0
 abbrev pub judgement_of : Verdict → Judgement
 judgement_of (verdict.Accepted n) = record { number = n; verdict = ACCEPTED }
 judgement_of verdict.Closed = plain CLOSING
@@ -67,6 +71,7 @@ judgement_of verdict.LifeSpent = plain LIFE_SPENT
 judgement_of verdict.NoErrand = plain NO_ERRAND
 judgement_of verdict.TooLate = plain TOO_LATE
 
+-- a notice for C; what a notice of its kind does not have is 0
 abbrev pub note_of : Notice → Note
 note_of (notice.Verdict seq order v) = record {
   seq = seq;

@@ -8,7 +8,7 @@ abbrev pub OnWhole : Option HeldValue → Option HeldValue → ℕ → (HeldValu
 OnWhole None new code Goes = (code ≡ NOT_OPEN) × (new ≡ None)
 OnWhole (Some f) new code Goes = IsSomeAnd new (λ n. Goes f n.core × (n.refused ≡ f.refused))
 
--- the same of the world alone
+-- a closed handle is refused and stays closed; an open one's world goes on so, and its refused cells stay
 abbrev pub OnFleet : Option HeldValue → Option HeldValue → ℕ → (HeldCore → HeldCore → Type 0) → Type 0
 OnFleet None new code Goes = (code ≡ NOT_OPEN) × (new ≡ None)
 OnFleet (Some f) new code Goes = IsSomeAnd new (λ n. Goes f.core n.core × (n.refused ≡ f.refused))

@@ -34,6 +34,7 @@ pub record IsAtOpening {A : Type 0} (m : Floor) (robots : List Robot) (setup : S
 abbrev pub IsSized : Setup → Type 0
 IsSized setup = setup.size ≡ SETUP_SIZE
 
+-- the text is a map, and on its floor a world was opened with a setup of the right form
 pub record IsOpened {A : Type 0} (bytes : List ℕ) (robots : List Robot) (setup : Setup) (w : World A) : Type 0 where
   pub sized : IsSized setup
   pub floor : Floor
@@ -57,6 +58,7 @@ IsRefusal bytes robots setup refusal.Size = setup.size ≢ SETUP_SIZE
 IsRefusal bytes robots setup (refusal.Map fault) = IsSized setup × IsFirstFault (lines_of bytes) fault
 IsRefusal bytes robots setup why = IsSized setup × ((m : Floor) × Reads bytes m × IsRefusedOn m robots setup why)
 
+-- a fault for C: its code, and two numbers
 abbrev pub fault : ℕ → ℕ → ℕ → Fault
 fault code first second = record { code = code; first = first; second = second }
 

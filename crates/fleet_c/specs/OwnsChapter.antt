@@ -11,12 +11,15 @@ use base.Stored.{Coded}
 use denote.RattleType.{RattleType}
 use denote.RawPtr.{Ptr}
 
+-- the type of what an open handle holds: a chapter
 abbrev pub held_row : RattleType
 held_row = chapter.the_row heap.the_row ghosts
 
+-- what an open handle holds
 abbrev pub HeldValue : Type 0
 HeldValue = held_row.Denot
 
+-- how a ghost keeps what a handle holds, `None` of a closed one
 abbrev pub owned_code : Coded (Option HeldValue)
 owned_code = coded_option held_row.coded
 

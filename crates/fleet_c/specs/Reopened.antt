@@ -33,6 +33,7 @@ pub record GoesOnFrom {A : Type 0} (m : Floor) (text : List ℕ) (robots : List 
   pub tells : Tells text kept
   pub goes_on : IsGoingOn m kept robots setup w
 
+-- the first text is a map, and on its floor a world goes on from the chapter that the second text tells
 pub record IsReopened {A : Type 0} (bytes text : List ℕ) (robots : List Robot) (setup : Setup) (w : World A) : Type 0 where
   pub sized : IsSized setup
   pub floor : Floor
@@ -45,6 +46,7 @@ IsNotGoingOn m kept robots setup refused.NoMemory = Unit {0}
 IsNotGoingOn m kept robots setup (refused.Chapter fault) = IsReopenFault m kept.number kept.history (limits_of setup) (laws_of_robots robots) fault
 IsNotGoingOn m kept robots setup _ = ⊥
 
+-- why no world goes on from the chapter of a text, out of memory apart: the text comes first
 abbrev pub DoesNotGoOnFrom : Floor → List ℕ → List Robot → Setup → ReopenRefusal → Type 0
 DoesNotGoOnFrom m text robots setup refused.NoMemory = Unit {0}
 DoesNotGoOnFrom m text robots setup (refused.Trace fault) = IsTraceFault text fault
@@ -90,6 +92,7 @@ pub record GoesOnRoomily {A : Type 0} (m : Floor) (text : List ℕ) (robots : Li
   pub goes_on : GoesOnFrom m text robots setup w
   pub roomy : AreOpenRoomy m w.history
 
+-- the texts are a map and a chapter from which a world goes on, with no unfinished errand to a cell that is not roomy
 pub record IsReopenedRoomily {A : Type 0} (bytes text : List ℕ) (robots : List Robot) (setup : Setup) (w : World A) : Type 0 where
   pub sized : IsSized setup
   pub floor : Floor
@@ -101,6 +104,7 @@ abbrev pub DoesNotGoOnRoomily : Floor → List ℕ → List Robot → Setup → 
 DoesNotGoOnRoomily m text robots setup refused.NoRoom = (w : World Global) × GoesOnFrom m text robots setup w × (AreOpenRoomy m w.history → ⊥)
 DoesNotGoOnRoomily m text robots setup why = DoesNotGoOnFrom m text robots setup why
 
+-- why no such fleet goes on: the same reasons in the same order, and last such an errand
 abbrev pub IsNotReopenedRoomily : List ℕ → List ℕ → List Robot → Setup → ReopenRefusal → Type 0
 IsNotReopenedRoomily bytes text robots setup refused.NoMemory = Unit {0}
 IsNotReopenedRoomily bytes text robots setup refused.Size = setup.size ≢ SETUP_SIZE

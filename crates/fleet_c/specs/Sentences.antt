@@ -3,6 +3,7 @@ use Rattle.std.specs.Prelude.{ℕ, ◌==◌, ◌&&◌, ◌-◌, ◌++◌, ◌∷
 use Rattle.std.specs.List.{flat_map}
 use Rattle.fleet_c.specs.declared.fault.Fault.{Fault}
 
+-- the sentence for a code that many calls give: 0 to 5 and 15 to 19
 abbrev pub call_text : ℕ → List ℕ
 call_text code =
     if code == 0 then codes "done"
@@ -17,6 +18,7 @@ call_text code =
     else if code == 18 then codes "the cell is not roomy for the fleet's robots"
     else codes "the chapter has an entry: robots take turns from the beginning of a chapter on"
 
+-- the sentence for a code of a call on a fleet: 6 to 14
 abbrev pub fleet_text : ℕ → List ℕ
 fleet_text code =
     if code == 6 then codes "the client's notices and unfinished errands leave no room for two more"
@@ -29,6 +31,7 @@ fleet_text code =
     else if code == 13 then codes "the robot, or each robot, has no errand"
     else codes "the map has a bridge"
 
+-- the sentence for a code of an opening: 20 to 24 and 30 to 35
 abbrev pub open_text : ℕ → List ℕ
 open_text code =
     if code == 20 then codes "the map: line # is missing or not in its form: the head is `type WORD`, `height N` and `width N`, and `map`"
@@ -43,6 +46,7 @@ open_text code =
     else if code == 34 then codes "the setup has not the size that this library reads: it was made with another header"
     else codes "the rooms that were found on the map do not pass their checks: robots take no turns"
 
+-- the sentence for a code of a step that is checked, or of a distance: 40 to 49
 abbrev pub step_text : ℕ → List ℕ
 step_text code =
     if code == 40 then codes "more robots are named than the map has cells"
@@ -56,6 +60,7 @@ step_text code =
     else if code == 48 then codes "the map has no bridge"
     else codes "the goal is no floor"
 
+-- the sentence for a code of a kept chapter: 50 to 57
 abbrev pub trace_text : ℕ → List ℕ
 trace_text code =
     if code == 50 then codes "the trace: it is not UTF-8, or not JSON, or nested deeper than 127"
@@ -67,6 +72,7 @@ trace_text code =
     else if code == 56 then codes "within the limits no chapter follows"
     else codes "a robot has waited longer than it may"
 
+-- the sentence for a code of an execution: 60 to 66
 abbrev pub execution_text : ℕ → List ℕ
 execution_text code =
     if code == 60 then codes "there is no clearance of this number"
@@ -77,6 +83,7 @@ execution_text code =
     else if code == 65 then codes "no move may begin"
     else codes "the robot is not under way"
 
+-- the sentence for a code of a shield: 70 to 77
 abbrev pub shield_text : ℕ → List ℕ
 shield_text code =
     if code == 70 then codes "the map has another number of cells than the shield was made for"

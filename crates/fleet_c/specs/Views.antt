@@ -39,6 +39,7 @@ IsWaiting w robot code ticks = MatchOption (wait w.history robot)
     (code ≡ IDLE)
     (λ t. (code ≡ DONE) × (ticks ≡ t) × (w.turns ≡ None → HasBound w.floor w.history → t < wait_bound w.floor w.history))
 
+-- how many ticks the robot has waited, where there is such a robot
 abbrev pub Waits : {A : Type 0} → World A → ℕ → ℕ → ℕ → Type 0
 Waits w robot code ticks = OfCounted (robots w.history) robot NO_ROBOT code (IsWaiting w robot code ticks)
 
@@ -80,6 +81,7 @@ pub record HasLimits {A : Type 0} (w : World A) (setup : Setup) : Type 0 where
 abbrev pub IsPeeked : {A : Type 0} → World A → ℕ → ℕ → Note → Type 0
 IsPeeked w client code note = MatchOption (slice_get (pending w client).notices 0) (code ≡ NO_NOTICE) (λ notice. (code ≡ DONE) × (note ≡ note_of notice))
 
+-- the client's first notice is told and stays, where there is such a client
 abbrev pub Peeks : {A : Type 0} → World A → ℕ → ℕ → Note → Type 0
 Peeks w client code note = OfCounted (clients w.history) client NO_CLIENT code (IsPeeked w client code note)
 
@@ -92,6 +94,7 @@ account_of w client = record {
   room = (pending w client).limit;
 }
 
+-- what the client has, and had, where there is such a client
 abbrev pub Accounts : {A : Type 0} → World A → ℕ → ℕ → Account → Type 0
 Accounts w client code account = OfCounted (clients w.history) client NO_CLIENT code ((code ≡ DONE) × (account ≡ account_of w client))
 

@@ -30,12 +30,12 @@ pub record IsFirstPair (Holds : ℕ → ℕ → Type 0) (robots i j : ℕ) : Typ
   pub holds : Holds i j
   pub none_before : (k l : ℕ) → k < l → l < robots → Holds k l → (i < k) ⊎ ((i ≡ k) × (j ≤ l))
 
--- as many cells, each on the floor
+-- there are as many cells after the step as before, each on the floor
 pub record AreOnFloor (m : Floor) (from to : List ℕ) : Type 0 where
   pub same_length : length to ≡ length from
   pub on_floor : (r : ℕ) → r < length from → IsFloor m (slice_index to r)
 
--- and each robot stays or crosses an edge
+-- the cells after the step are on the floor, and each robot stays or crosses an edge
 pub record AreMoves (m : Floor) (from to : List ℕ) : Type 0 where
   pub on_floor : AreOnFloor m from to
   pub moves : (r : ℕ) → r < length from → Moves m from to r

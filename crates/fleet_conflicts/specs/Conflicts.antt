@@ -54,6 +54,7 @@ pub data OfStep (m : Floor) (from to : List ℕ) (faults : List StepFault) : Typ
   uneven : length to ≢ length from → faults ≡ Length ∷ [] → OfStep m from to faults
   even : length to ≡ length from → OfRobots m from to (length to) faults → OfStep m from to faults
 
+-- a fault of the step to this time
 abbrev pub at_time : ℕ → StepFault → Conflict
 at_time time fault = record { time = time; fault = fault }
 

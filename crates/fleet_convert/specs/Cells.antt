@@ -7,6 +7,7 @@ use Rattle.fleet_plans.specs.Valid.{place_at}
 abbrev pub cell_text : ℕ → ℕ → List ℕ
 cell_text width cell = codes "(" ++ decimal (cell % width) ++ codes "," ++ decimal (cell / width) ++ codes "),"
 
+-- the cells, with a comma after each
 abbrev pub cells_text : ℕ → List ℕ → List ℕ
 cells_text width cells = flat_map (λ cell. cell_text width cell) cells
 

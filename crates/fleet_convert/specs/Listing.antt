@@ -34,6 +34,7 @@ stands_from listing width robot time [] = []
 stands_from listing width robot time (place ∷ places) =
     stand_text listing robot time (slice_index place robot / width) (slice_index place robot % width) ++ stands_from listing width robot (time + 1) places
 
+-- all that is written of a robot
 abbrev pub path_text : Listing → ℕ → ℕ → List (List ℕ) → List ℕ
 path_text listing width robot places = robot_text listing robot ++ stands_from listing width robot 0 places ++ ending listing
 

@@ -14,6 +14,7 @@ step_between width from to =
     else if to + 1 == from then Left
     else Right
 
+-- the letter of a step: `u`, `d`, `l`, `r` or `w`
 abbrev pub letter : Step → ℕ
 letter Up = 117
 letter Down = 100

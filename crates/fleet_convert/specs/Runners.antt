@@ -6,6 +6,7 @@ use Rattle.fleet_convert.specs.declared.step.Step.{Step}
 use Rattle.fleet_convert.specs.declared.step.Step.TheVariants.{Up, Down, Left, Right, Wait}
 use Rattle.fleet_convert.specs.Moves.{steps_of}
 
+-- the letter of a step: `U`, `D`, `L`, `R` or `W`
 abbrev pub capital : Step → List ℕ
 capital Up = codes "U"
 capital Down = codes "D"

@@ -17,7 +17,7 @@ use Rattle.fleet_convert.specs.PlanTrace.{plan_trace}
 abbrev pub are_cells : ℕ → List ℕ → Bool
 are_cells count cells = list_all (λ cell. nat_lt cell count) cells
 
--- it has the cells of each placement
+-- a map of this many cells has those of each placement
 abbrev pub are_on : ℕ → List (List ℕ) → Bool
 are_on count places = list_all (are_cells count) places
 
@@ -25,6 +25,7 @@ are_on count places = list_all (are_cells count) places
 abbrev pub fits : ℕ → List (List ℕ) → Bool
 fits count places = not (nat_lt 512 (length (place_at places 0))) && are_on count places
 
+-- the text is that of the placements' trace if the test passes, or else there is none
 abbrev pub IsShownIf : Bool → List (List ℕ) → Option (String Global) → Type 0
 IsShownIf true places (Some text) = string_bytes text ≡ trace_text (plan_trace places)
 IsShownIf true places None = ⊥

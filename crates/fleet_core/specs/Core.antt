@@ -31,6 +31,7 @@ use Rattle.fleet_core.specs.Pending.{Pending, no_pending}
 
 -- ---- what a world holds
 
+-- a world: its map and limits, how its ticks are planned, its chapter so far, and its clients' mailboxes
 pub record World (A : Type 0) : Type 0 where
   pub floor : Floor
   pub limits : Limits
@@ -73,13 +74,15 @@ next_world w = record w { number = w.number + 1; history = start (next_opening w
 abbrev pub HasRoom : {A : Type 0} → World A → ℕ → Type 0
 HasRoom w c = length (pending w c).notices + owed w.history c + 2 ≤ (pending w c).limit
 
+-- a client's notices and unfinished errands leave room for fewer than two more
 abbrev pub HasNoRoom : {A : Type 0} → World A → ℕ → Type 0
 HasNoRoom w c = (pending w c).limit < length (pending w c).notices + owed w.history c + 2
 
--- the chapter has room for an entry, or none
+-- the chapter has room for an entry
 abbrev pub HasEntries : {A : Type 0} → World A → Type 0
 HasEntries w = length w.history.entries < w.limits.chapter
 
+-- the chapter has no room for an entry
 abbrev pub HasNoEntries : {A : Type 0} → World A → Type 0
 HasNoEntries w = length w.history.entries ≡ w.limits.chapter
 
@@ -131,6 +134,7 @@ robot_at starts arrivals farewells r = record {
   farewell_law = law_at farewells r;
 }
 
+-- the opening of the first chapter: robots without errands on these cells, and n clients that did nothing yet
 abbrev pub opening_of : {A : Type 0} → List ℕ → ℕ → Limits → HookLaws → Opening A
 opening_of starts n limits laws = record {
   tick = 0;

@@ -15,6 +15,7 @@ pub record HookLaws : Type 0 where
   pub arrivals : List StampLaw
   pub farewells : List StampLaw
 
+-- the laws of a fleet's closures
 abbrev pub laws_of : {A f g h : Type 0} {F : f → Type 0} {G : g → Type 0} {H : h → Type 0} {k l m : _} → Hooks A f g h F G H k l m → HookLaws
 laws_of hooks = record {
   ties = map (λ x. x.law) hooks.ties.items;
@@ -22,6 +23,7 @@ laws_of hooks = record {
   farewells = map (λ x. x.law) hooks.farewells.items;
 }
 
+-- the robot's law among these
 abbrev pub law_at : List StampLaw → ℕ → StampLaw
 law_at laws r = slice_index_or laws r no_law
 

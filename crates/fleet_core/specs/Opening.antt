@@ -14,6 +14,7 @@ AreInRange clients limits = AreValid limits × IsBetween 1 64 clients
 abbrev pub AreRobots : List ℕ → Type 0
 AreRobots starts = IsBetween 1 512 (length starts)
 
+-- each robot starts on a floor cell
 abbrev pub AreOnFloor : Floor → List ℕ → Type 0
 AreOnFloor m starts = (r : ℕ) → r < length starts → IsFloor m (slice_index starts r)
 

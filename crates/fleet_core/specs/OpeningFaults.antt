@@ -20,7 +20,7 @@ pub record AreShared (starts : List ℕ) (i j : ℕ) : Type 0 where
   pub known : j < length starts
   pub same : slice_index starts i ≡ slice_index starts j
 
--- they are the least pair of such
+-- they are the least pair of robots that start on one cell
 pub record IsFirstShared (starts : List ℕ) (i j : ℕ) : Type 0 where
   pub shared : AreShared starts i j
   pub least : (k l : ℕ) → AreShared starts k l → (i < k) ⊎ ((i ≡ k) × (j ≤ l))

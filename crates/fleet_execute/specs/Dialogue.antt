@@ -49,6 +49,7 @@ pub record HasHeard (plan : Plan) (o : Course) (bytes text : List ℕ) (p : Cour
   pub parts : heard_lines bytes ≡ lines ++ left
   pub hears : Hears plan o lines text p
 
+-- the line that says that all is done
 abbrev pub done_text : List ℕ
 done_text = codes "done\n"
 

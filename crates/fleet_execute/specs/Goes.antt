@@ -21,9 +21,11 @@ cells_at robots cells time = take robots (drop (time * robots) cells)
 abbrev pub steps_in : ℕ → List ℕ → ℕ
 steps_in robots cells = length cells / robots - 1
 
+-- how many steps the plan has
 abbrev pub last_step : Plan → ℕ
 last_step plan = steps_in plan.robots plan.cells.items
 
+-- the robots' cells after this number of steps of the plan
 abbrev pub step_at : Plan → ℕ → List ℕ
 step_at plan time = cells_at plan.robots plan.cells.items time
 

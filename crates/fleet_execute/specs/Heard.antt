@@ -7,10 +7,12 @@ use Rattle.fleet_script.specs.Numbers.{most32, one_in}
 use Rattle.fleet_execute.specs.declared.heard.Heard.{Heard}
 use Rattle.fleet_execute.specs.declared.heard.Heard.TheVariants.{Nothing, Reached, Other}
 
+-- what a line `reached` says, by its robot
 abbrev pub report_in : Option ℕ → Heard
 report_in None = Other
 report_in (Some robot) = Reached robot
 
+-- what a line of these words says
 abbrev pub words_heard : List (List ℕ) → Heard
 words_heard [] = Nothing
 words_heard (word ∷ words) = if bytes_eq word (codes "reached") then report_in (one_in most32 words) else Other

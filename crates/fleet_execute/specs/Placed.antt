@@ -16,6 +16,7 @@ abbrev pub all_cells : List (List ℕ) → List ℕ
 all_cells [] = []
 all_cells (cells ∷ places) = cells ++ all_cells places
 
+-- the first placement; no cells where there is none
 abbrev pub first_of : List (List ℕ) → List ℕ
 first_of places = place_at places 0
 

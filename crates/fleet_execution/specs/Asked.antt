@@ -43,6 +43,7 @@ pub record IsRing (d : Desk) (t r : ℕ) : Type 0 where
 abbrev pub IsLinked : Desk → ℕ → ℕ → Type 0
 IsLinked d t q = (l : Leave) × ((d.window q t).after ≡ Some l) × (l.step ≡ t)
 
+-- the robot's next move is in step t, and it has done with the one before
 pub record IsReadyIn (d : Desk) (t q : ℕ) : Type 0 where
   pub next : IsNextIn d q t
   pub free : IsFreeIn d q

@@ -18,7 +18,7 @@ put f r v q = if q == r then v else f q
 abbrev pub longer : Plan → List ℕ → Plan
 longer plan to = record plan { steps = plan.steps + 1; cell = λ t r. if nat_le t plan.steps then plan.cell t r else slice_index to r }
 
--- the same, and what robots have done stays
+-- the course with a further step of its plan; what robots have done stays
 abbrev pub with_step : Course → List ℕ → Course
 with_step o to = record o { run = record o.run { plan = longer o.run.plan to } }
 
@@ -26,6 +26,6 @@ with_step o to = record o { run = record o.run { plan = longer o.run.plan to } }
 abbrev pub placed : List ℕ → Plan
 placed cells = record { robots = length cells; steps = 0; cell = λ t r. slice_index cells r }
 
--- its execution, at the beginning
+-- the execution of the plan with no step, at the beginning
 abbrev pub course_at : Clearance → List ℕ → Course
 course_at clearance cells = record { run = opened clearance (placed cells); returned = λ r. 0 }

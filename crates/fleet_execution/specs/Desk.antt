@@ -6,18 +6,23 @@ use Rattle.fleet_execution.specs.declared.robot.Leave.{Leave}
 use Rattle.fleet_execution.specs.declared.robot.Planned.{Planned}
 use Rattle.fleet_execution.specs.declared.robot.Turning.{Turning}
 
--- `window r t` is what step t has for robot r, and `unreached` is by step modulo `ahead`
+-- `window r t` is what step t has for robot r
 pub record Desk : Type 0 where
   pub clearance : Clearance
+  -- the numbers of robots, of cells, of steps in the window, and of planned steps
   pub count : ℕ
   pub cells : ℕ
   pub ahead : ℕ
   pub steps : ℕ
   pub robot : ℕ → Robot
   pub window : ℕ → ℕ → Planned
+  -- how many moves of a step are not reached, by step modulo `ahead`
   pub unreached : ℕ → ℕ
+  -- who left the cell last in the plan
   pub leave : ℕ → Option Leave
+  -- each robot whose next move may begin, or one of its cycle, and maybe more
   pub ready : List ℕ
+  -- the cycle whose moves have begun, and were not all returned
   pub turning : Option Turning
 
 -- the sum of a value for each of the numbers below n
@@ -34,6 +39,7 @@ pub record HasSameBounds (d e : Desk) : Type 0 where
   pub cells : e.cells ≡ d.cells
   pub ahead : e.ahead ≡ d.ahead
 
+-- the robot of the leave; robot r itself where there is none
 abbrev pub leaver : Option Leave → ℕ → ℕ
 leaver None r = r
 leaver (Some l) r = l.robot

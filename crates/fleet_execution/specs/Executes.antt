@@ -71,6 +71,7 @@ pub record IsTurning (o : Course) (k : Turning) : Type 0 where
 abbrev pub AreReturned : Course → Type 0
 AreReturned o = (r : ℕ) → r < o.run.plan.robots → o.returned r ≡ o.run.begun r
 
+-- the cycle whose moves were not all returned; without one, each move that has begun was returned
 abbrev pub IsTurningOf : Course → Option Turning → Type 0
 IsTurningOf o None = AreReturned o
 IsTurningOf o (Some k) = IsTurning o k
@@ -91,7 +92,7 @@ count_below (suc n) p = (if p n then 1 else 0) + count_below n p
 abbrev pub changes : Plan → ℕ → ℕ → Bool
 changes plan t r = not (plan.cell t r == plan.cell (t - 1) r)
 
--- and has not reached the new one
+-- whether robot r changes its cell in step t, and has not reached the new one
 abbrev pub is_open : Plan → (ℕ → ℕ) → ℕ → ℕ → Bool
 is_open plan reached t r = changes plan t r && nat_lt (reached r) t
 
@@ -105,6 +106,7 @@ pub record Counts (plan : Plan) (reached : ℕ → ℕ) (ahead : ℕ) (unreached
   pub blank : (t : ℕ) → plan.steps < t → t ≤ ahead → unreached (t % ahead) ≡ 0
   pub old : (r t : ℕ) → r < plan.robots → Moves plan r t → t + ahead ≤ plan.steps → t ≤ reached r
 
+-- the number is in the list
 abbrev pub IsIn : List ℕ → ℕ → Type 0
 IsIn xs q = list_any (eqb q) xs ≡ true
 
@@ -112,6 +114,7 @@ IsIn xs q = list_any (eqb q) xs ≡ true
 abbrev pub Completes : Run → List ℕ → Type 0
 Completes run ready = (r t : ℕ) → r < run.plan.robots → ((q : ℕ) → BeginsWith run.plan t r q → IsIn ready q → ⊥) → MayBegin run r t → ⊥
 
+-- what is kept is that of a course: of its plan's last steps, and of how far its robots have come
 pub record Executes (d : Desk) (o : Course) : Type 0 where
   pub clearance : o.run.clearance ≡ d.clearance
   pub robots : o.run.plan.robots ≡ d.count

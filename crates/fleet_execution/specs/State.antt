@@ -7,6 +7,7 @@ use Rattle.fleet_execution.specs.Desk.{Desk}
 pub use Rattle.fleet_execution.specs.Kept.{Kept, nobody, blank, slot_of, desk}
 use Rattle.fleet_execution.specs.Executes.{Executes}
 
+-- what a state keeps, as callers see it
 abbrev pub kept_of : {A : Type 0} → State A → Kept
 kept_of s = record {
   clearance = s.clearance;
@@ -21,9 +22,11 @@ kept_of s = record {
   turning = s.turning;
 }
 
+-- what a state keeps, as functions of robots, steps and cells
 abbrev pub desk_of : {A : Type 0} → State A → Desk
 desk_of s = desk (kept_of s)
 
+-- the lists are as long as the numbers of robots, of steps and of cells ask
 pub record IsSized {A : Type 0} (s : State A) : Type 0 where
   pub some : 0 < s.ahead
   pub robots : length s.robots ≡ s.count
@@ -33,11 +36,12 @@ pub record IsSized {A : Type 0} (s : State A) : Type 0 where
   pub marks : length s.marks ≡ length s.leaves
   pub small : length s.leaves < 4294967296
 
--- it keeps to some plan
+-- the lists are long enough, and what they have is that of some course
 pub record IsSound {A : Type 0} (s : State A) : Type 0 where
   pub sized : IsSized s
   pub course : Course
   pub executes : Executes (desk_of s) course
 
+-- a robot that stands on the cell, before its first move
 abbrev pub standing_on : ℕ → Robot
 standing_on cell = record { cell = cell; bound = cell; last = cell; returned = 0; reached = 0; turned = 0 }

@@ -35,9 +35,11 @@ IsStepAt m h at detail =
 
 -- ---- arrivals
 
+-- the arrival that a detail names
 abbrev pub named : ArrivalName → Arriving
 named d = record { robot = d.robot; client = d.client; number = d.number }
 
+-- whether two arrivals are of the same robot, client and errand
 abbrev pub is_same : Arriving → Arriving → Bool
 is_same a b = (a.robot == b.robot) && (a.client == b.client) && (a.number == b.number)
 
@@ -56,18 +58,20 @@ IsArrivalAt h at detail =
 
 -- ---- farewells
 
--- the robots whose farewells an entry shows, and those whose farewells are due of it
+-- the robots whose farewells an entry shows
 abbrev pub farewells_shown : {A : Type 0} → Entry A → List ℕ
 farewells_shown (Take client order verdict) = []
 farewells_shown (Tick to arrived farewells) = map (λ b. b.robot) farewells
 farewells_shown (Shut robot None) = []
 farewells_shown (Shut robot (Some stamp)) = robot ∷ []
 
+-- the robots whose farewells are due of an entry after the history
 abbrev pub farewells_due : {A : Type 0} → History A → Entry A → List ℕ
 farewells_due h (Take client order verdict) = []
 farewells_due h (Tick to arrived farewells) = leaving h (after h (Tick to arrived farewells))
 farewells_due h (Shut robot farewell) = robot_if (is_none_left (unfinished h robot)) robot
 
+-- whether two robots are the same
 abbrev pub same_robot : ℕ → ℕ → Bool
 same_robot q r = q == r
 
@@ -118,6 +122,7 @@ IsShutAt h at detail = (robot : ℕ) × (farewell : Option ℕ) × (slice_get h.
 
 -- ---- a stamp
 
+-- what is said of the first stamp that is outside of its law; nothing where there is none
 abbrev pub stamp_detail : Option RobotStamp → Detail
 stamp_detail None = Nothing
 stamp_detail (Some stamp) = Stamp stamp

@@ -5,11 +5,13 @@ use Rattle.fleet_history.specs.declared.history.Entry.TheVariants as entry
 use Rattle.fleet_explain.specs.declared.entry.EntryKind.{EntryKind}
 use Rattle.fleet_explain.specs.declared.entry.EntryKind.TheVariants.{Opening, Take, Tick, Shut}
 
+-- of which kind an entry is, with its client or its robot
 abbrev pub kind_of : {A : Type 0} → Entry A → EntryKind
 kind_of (entry.Take client order verdict) = Take client
 kind_of (entry.Tick to arrived farewells) = Tick
 kind_of (entry.Shut robot farewell) = Shut robot
 
+-- of which kind an entry is; the opening where there is none
 abbrev pub kind_in : {A : Type 0} → Option (Entry A) → EntryKind
 kind_in None = Opening
 kind_in (Some e) = kind_of e

@@ -30,6 +30,7 @@ IsNoMap map (explanation.Map f) = map_of map ≡ Err f
 IsNoMap map (explanation.Letter row column letter) = (map_of map ≡ Err (Cell row column)) × (letter ≡ letter_in (lines_of map) row column)
 IsNoMap map _ = ⊥
 
+-- what is wrong with the text of a map, or that all is in order
 pub data IsMapExplained (map : List ℕ) (e : Explanation) : Type 0 where
   no_map : IsNoMap map e → IsMapExplained map e
   fine : (m : Map) → map_of map ≡ Ok m → e ≡ explanation.Fine → IsMapExplained map e
@@ -47,6 +48,7 @@ abbrev pub IsScriptOn : Map → Plan → Explanation → Type 0
 IsScriptOn m plan (explanation.Start fault width) = IsStartFault (floor_of_map m) plan.starts plan.clients plan.limits fault × (width ≡ m.width)
 IsScriptOn m plan e = CanStart (floor_of_map m) plan.starts plan.clients plan.limits × IsServedAs plan e
 
+-- what is first wrong with a map and a script on it: the map comes first
 pub data IsScriptExplained (map script : List ℕ) (e : Explanation) : Type 0 where
   no_floor : IsNoMap map e → IsScriptExplained map script e
   no_script : (m : Map) (line : ℕ) → map_of map ≡ Ok m → script_of script ≡ Err line → e ≡ explanation.Script line (fault_at (lines_of script) line) → IsScriptExplained map script e
@@ -67,6 +69,7 @@ IsJudgedAs m h explanation.Fine = IsLegal (floor_of_map m) h
 IsJudgedAs m h (explanation.Illegal at rule kind detail) = IsFirstIllegal (floor_of_map m) h at rule × (kind ≡ kind_at h.entries at) × IsDetail (floor_of_map m) h at rule detail
 IsJudgedAs m h _ = ⊥
 
+-- what is first wrong with a map and a trace on it: the map comes first
 pub data IsTraceExplained (map trace : List ℕ) (e : Explanation) : Type 0 where
   without_map : IsNoMap map e → IsTraceExplained map trace e
   no_trace : (m : Map) → map_of map ≡ Ok m → IsNoTrace trace e → IsTraceExplained map trace e

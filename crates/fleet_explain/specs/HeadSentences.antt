@@ -6,11 +6,13 @@ use Rattle.fleet_explain.specs.declared.head.HeadLineFault.{HeadLineFault}
 use Rattle.fleet_explain.specs.declared.head.HeadLineFault.TheVariants as fault
 use Rattle.fleet_explain.specs.Sentences.{line_text, sentence, start_text}
 
+-- what is wrong with a header line
 abbrev pub head_fault_text : HeadLineFault → List ℕ
 head_fault_text fault.Long = codes "it is longer than 8192 bytes"
 head_fault_text fault.Event = codes "it is an event line, which belongs in the conversation and not in this file"
 head_fault_text (fault.Line f) = line_text f
 
+-- what is wrong with a map and the header lines for it
 abbrev pub head_sentence : HeadExplanation → List ℕ
 head_sentence explanation.Fine = codes "all in order"
 head_sentence explanation.Unplaced = codes "all in order for `talk`, whose conversation has to give a line `robots CELL ..`; `live` needs it here"

@@ -27,6 +27,7 @@ event_apart line.Unknown = fault.Line line.Unknown
 event_apart line.Late = fault.Line line.Late
 event_apart line.Twice = fault.Line line.Twice
 
+-- what is wrong with a line of a head: that it is too long, or else its fault
 abbrev pub head_fault : Bool → LineFault → HeadLineFault
 head_fault is_long f = if is_long then fault.Long else event_apart f
 
@@ -45,9 +46,11 @@ abbrev pub IsStartedOn : Map → Draft → Option (List ℕ) → HeadExplanation
 IsStartedOn m d None e = e ≡ explanation.Unplaced
 IsStartedOn m d (Some starts) e = IsPlacedOn m d starts e
 
+-- on the map, the fleet of a head that says this, with the starts that it names if it does
 abbrev pub IsHeadOn : Map → Draft → HeadExplanation → Type 0
 IsHeadOn m d e = IsStartedOn m d d.starts e
 
+-- what is first wrong with a map and the header lines for it: the map comes first
 pub data IsHeadExplained (map head : List ℕ) (e : HeadExplanation) : Type 0 where
   no_map : (f : Explanation) → IsNoMap map f → e ≡ explanation.Map f → IsHeadExplained map head e
   no_head : (m : Map) (number : ℕ) → map_of map ≡ Ok m → IsFirstBad (lines_of head) number → e ≡ explanation.Line number (head_fault_at (lines_of head) number) → IsHeadExplained map head e

@@ -7,6 +7,7 @@ use Rattle.fleet_book.specs.Limits as limits
 use Rattle.fleet_explain.specs.declared.keyword.Keyword.{Keyword}
 use Rattle.fleet_explain.specs.declared.keyword.Keyword.TheVariants.{Robots, Clients, Ties, Turns, Limit, Post, Take, Give, Collect, Tick, Shut}
 
+-- the keyword of header lines that the word is; `None` where it is none
 abbrev pub header_named : List ℕ → Option Keyword
 header_named word =
     if bytes_eq word (codes "robots") then Some Robots
@@ -15,6 +16,7 @@ header_named word =
     else if bytes_eq word (codes "turns") then Some Turns
     else option_map Limit (limit_named word)
 
+-- the keyword of event lines that the word is; `None` where it is none
 abbrev pub event_named : List ℕ → Option Keyword
 event_named word =
     if bytes_eq word (codes "post") then Some Post
@@ -25,13 +27,16 @@ event_named word =
     else if bytes_eq word (codes "shut") then Some Shut
     else None
 
+-- the first keyword, or else the second
 abbrev pub first_some : Option Keyword → Option Keyword → Option Keyword
 first_some (Some keyword) other = Some keyword
 first_some None other = other
 
+-- the keyword that the word is; `None` where it is none
 abbrev pub keyword_named : List ℕ → Option Keyword
 keyword_named word = first_some (header_named word) (event_named word)
 
+-- whether lines of this keyword are event lines
 abbrev pub is_event : Keyword → Bool
 is_event Post = true
 is_event Take = true
@@ -41,6 +46,7 @@ is_event Tick = true
 is_event Shut = true
 is_event _ = false
 
+-- the word of a keyword
 abbrev pub name_of : Keyword → List ℕ
 name_of Robots = codes "robots"
 name_of Clients = codes "clients"

@@ -15,14 +15,17 @@ use Rattle.fleet_explain.specs.Keywords.{keyword_named, is_event}
 abbrev pub texts : List (Bor (List ℕ)) → List (List ℕ)
 texts lines = map (λ x. x.now) lines
 
+-- whether an event line was said
 abbrev pub says_events : Said → Bool
 says_events nothing = false
 says_events (events more) = true
 says_events other = false
 
+-- whether the line is an event line in its form
 abbrev pub is_event_line : List ℕ → Bool
 is_event_line line = says_events (event_line_in line)
 
+-- whether the first of the words is this one
 abbrev pub begins_with : List ℕ → List (List ℕ) → Bool
 begins_with word [] = false
 begins_with word (first ∷ words) = bytes_eq first word
@@ -39,10 +42,12 @@ header_fault before word keyword =
     else if list_any (has_key word) before then Twice
     else Form keyword
 
+-- what is wrong with a line that begins with the word, which is this keyword or none
 abbrev pub named_fault : List (List ℕ) → List ℕ → Option Keyword → LineFault
 named_fault before word None = Unknown
 named_fault before word (Some keyword) = header_fault before word keyword
 
+-- what is wrong with a line that begins with the word, after these lines
 abbrev pub keyed_fault : List (List ℕ) → List ℕ → LineFault
 keyed_fault before word = named_fault before word (keyword_named word)
 

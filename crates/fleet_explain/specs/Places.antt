@@ -7,6 +7,7 @@ use Rattle.fleet_trace.specs.declared.part.FormPart.TheVariants as form
 use Rattle.fleet_explain.specs.declared.explanation.Explanation.{Explanation}
 use Rattle.fleet_explain.specs.declared.explanation.Explanation.TheVariants as explanation
 
+-- which of the files the fault is in, or none
 pub data File : Type 0 where
   no_file : File
   map_file : File
@@ -21,6 +22,7 @@ pub data Place : Type 0 where
   letter : ℕ → ℕ → Place
   entry : ℕ → Place
 
+-- the file that an explanation is about; none where all is in order for `run`
 abbrev pub file_of : Explanation → File
 file_of explanation.Fine = no_file
 file_of (explanation.Map f) = map_file
@@ -33,6 +35,7 @@ file_of explanation.Version = trace_file
 file_of (explanation.Form part) = trace_file
 file_of (explanation.Illegal at rule kind detail) = trace_file
 
+-- where a map is at fault; of a letter the row
 abbrev pub map_place : MapFault → Place
 map_place (map.Header n) = line n
 map_place map.Size = whole
@@ -41,6 +44,7 @@ map_place (map.Cell r column) = row r
 map_place (map.Trailing n) = line n
 map_place map.NoMemory = whole
 
+-- where a text is not in the form of a trace: the whole text, or an entry
 abbrev pub form_place : FormPart → Place
 form_place form.Value = whole
 form_place form.Members = whole
@@ -49,6 +53,7 @@ form_place form.Opening = whole
 form_place form.Entries = whole
 form_place (form.Entry n) = entry n
 
+-- the place that an explanation is about
 abbrev pub place_of : Explanation → Place
 place_of explanation.Fine = whole
 place_of (explanation.Map f) = map_place f

@@ -30,6 +30,7 @@ placed_text step.NoMemory width from to = codes "out of memory"
 placed_text (step.Vertex i j) width from to = codes "robots " ++ (decimal i ++ (codes " and " ++ (decimal j ++ (codes " are both on " ++ place_text width to))))
 placed_text (step.Swap i j) width from to = codes "robots " ++ (decimal i ++ (codes " and " ++ (decimal j ++ (codes " exchange " ++ (place_text width from ++ (codes " and " ++ place_text width to))))))
 
+-- at what time a plan has its first fault, and which
 abbrev pub misplaced_text : Misplaced → List ℕ
 misplaced_text m = codes "time " ++ (decimal m.time ++ (codes ": " ++ placed_text m.fault m.width m.from m.to))
 
@@ -43,21 +44,25 @@ wanted_text form.PlannerJson = codes "is not allowed where it is"
 wanted_text form.Schedule = codes "is none of `agentK:`, `- x: COLUMN`, `y: ROW` and `t: TIME`, or not that of the next cell"
 wanted_text form.Table = codes "is not that of the next cell, `AGENT,TIME,ROW,COLUMN`, after `agent,time,row,column`"
 
+-- what is wrong with a plan in JSON
 abbrev pub runners_text : RunnersFault → List ℕ
 runners_text runners.NotJson = codes "it is not JSON"
 runners_text (runners.Key key) = codes "`" ++ (told.key_text key ++ codes "` is missing, or what it has is not in its form")
 runners_text (runners.Item key robot) = codes "under `" ++ (told.key_text key ++ (codes "`, the item of robot " ++ (decimal robot ++ codes " is not in its form")))
 runners_text runners.NoMemory = codes "out of memory"
 
+-- what is wrong with the head of a plan
 abbrev pub head_text : HeadFault → List ℕ
 head_text (head.Unlike key) = codes "the number that its head says under `" ++ (claims.key_text key ++ codes "` is not that of the plan")
 head_text (head.Cut n) = codes "it ends before the makespan that its head says: line " ++ (decimal n ++ codes " is missing")
 
+-- why the robots do not do what is asked of them
 abbrev pub goal_text : GoalFault → List ℕ
 goal_text goal.NoGoals = codes "it names no goals"
 goal_text (goal.OffStart robot) = codes "robot " ++ (decimal robot ++ codes " does not begin on its start")
 goal_text (goal.OffGoal robot) = codes "robot " ++ (decimal robot ++ codes " does not end on its goal")
 
+-- what is wrong with a map and a plan on it
 abbrev pub plan_sentence : PlanExplanation → List ℕ
 plan_sentence plan.Fine = codes "all in order"
 plan_sentence (plan.Map e) = sentence e

@@ -40,6 +40,7 @@ IsSaid form width (answer.Valid report) e = e ≡ plan.Fine
 IsSaid form width (answer.Invalid f) e = e ≡ plan.Placed (misplaced width f)
 IsSaid form width (answer.Goals time f) e = e ≡ plan.Goals f
 
+-- what is first wrong with a map and a plan on it: the map comes first
 pub data IsPlanExplained (map text : List ℕ) (e : PlanExplanation) : Type 0 where
   no_map : (x : Explanation) → IsNoMap map x → e ≡ plan.Map x → IsPlanExplained map text e
   on_map : (m : Map) (a : PlanAnswer) → map_of map ≡ Ok m → IsPlanAnswer map text a → IsSaid (form_of text) m.width a e → IsPlanExplained map text e

@@ -28,6 +28,7 @@ use Rattle.fleet_explain.specs.Keywords.{wants}
 use Rattle.fleet_explain.specs.Keywords as keywords
 use Rattle.fleet_explain.specs.Limits.{least_of, most_of, name_of}
 
+-- what is wrong with a line of a script
 abbrev pub line_text : LineFault → List ℕ
 line_text line.NoRobots = codes "the script ends without a line `robots CELL ..`, which a conversation of `talk` may give later"
 line_text line.Unknown = codes "its first word begins no line of a script, which are `robots`, `clients`, `ties`, `turns`, the name of a limit, `post`, `take`, `give`, `collect`, `tick`, `shut`, and `#` in the first column"
@@ -35,6 +36,7 @@ line_text line.Late = codes "it is a header line, and stands after an event line
 line_text line.Twice = codes "a line with the same first word stands above it, and one is allowed"
 line_text (line.Form keyword) = codes "`" ++ keywords.name_of keyword ++ codes "` expects " ++ wants keyword
 
+-- what is wrong with a map: lines are counted from 1, rows and columns from 0
 abbrev pub map_text : MapFault → List ℕ
 map_text (map.Header n) = codes "line " ++ decimal n ++ codes " is missing or not in its form: the head is `type WORD`, `height N` and `width N`, and `map`"
 map_text map.Size = codes "the height or the width is not from 1 to 1024"
@@ -47,9 +49,11 @@ map_text map.NoMemory = codes "out of memory"
 abbrev pub cell_text : ℕ → ℕ → List ℕ
 cell_text width cell = codes "cell " ++ decimal cell ++ codes " (row " ++ decimal (cell / max width 1) ++ codes ", column " ++ decimal (cell % max width 1) ++ codes ")"
 
+-- a limit's name, what it is, and its range
 abbrev pub limit_text : LimitFault → List ℕ
 limit_text f = name_of f.kind ++ codes " is " ++ decimal f.value ++ codes ", which is not from " ++ decimal (least_of f.kind) ++ codes " to " ++ decimal (most_of f.kind)
 
+-- why a fleet cannot begin, on a map of this width
 abbrev pub start_text : ℕ → StartFault → List ℕ
 start_text width (start.Limit f) = limit_text f
 start_text width start.Robots = codes "there are not 1 to 512 robots"
@@ -67,12 +71,14 @@ form_text form.Opening = codes "under `opening` is no object with `clients`, `li
 form_text form.Entries = codes "under `entries` is no array"
 form_text (form.Entry n) = codes "entry " ++ (decimal n ++ codes " is not in the form of a take, a tick or a shut: `[\"take\",CLIENT,ORDER,VERDICT]`, `[\"tick\",CELLS,ARRIVALS,FAREWELLS]`, `[\"shut\",ROBOT]` or `[\"shut\",ROBOT,STAMP]`")
 
+-- the kind of an entry, with its client or its robot
 abbrev pub kind_text : EntryKind → List ℕ
 kind_text kind.Opening = codes "the opening"
 kind_text (kind.Take client) = codes "a take of client " ++ decimal client
 kind_text kind.Tick = codes "a tick"
 kind_text (kind.Shut robot) = codes "a shut of robot " ++ decimal robot
 
+-- what it means that the rule of this number, from 1 to 8, is broken
 abbrev pub rule_text : ℕ → List ℕ
 rule_text rule =
     if rule == 1 then codes "it is not in order"
@@ -122,9 +128,11 @@ abbrev pub answer_text : Option ℕ → Verdict → List ℕ
 answer_text (Some code) v = codes "refused " ++ decimal code ++ codes " " ++ verdict_name v
 answer_text None v = done_text v
 
+-- a verdict: that the order was carried out, or the number and the name of the refusal
 abbrev pub verdict_text : Verdict → List ℕ
 verdict_text v = answer_text (refusal_code v) v
 
+-- what more is said, after a colon; nothing where nothing is
 abbrev pub detail_text : Detail → List ℕ
 detail_text detail.Nothing = []
 detail_text (detail.Opening part) = codes ": " ++ opening_text part
@@ -139,6 +147,7 @@ detail_text (detail.Clients count) = codes ": the number of clients is " ++ deci
 detail_text (detail.Robots count) = codes ": the number of robots is " ++ decimal count
 detail_text detail.ShutBefore = codes ": it is shut already"
 
+-- whether nothing more is said
 abbrev pub is_nothing : Detail → Bool
 is_nothing detail.Nothing = true
 is_nothing _ = false
@@ -155,6 +164,7 @@ letter_text byte = if nat_lt byte 32 || nat_lt 126 byte then codes "byte " ++ de
 abbrev pub unserved_text : ℕ → ℕ → List ℕ
 unserved_text n clients = codes "all in order for `run`; `serve` does not take line " ++ decimal n ++ codes ", which is no post or collect of a client below " ++ decimal clients
 
+-- the whole sentence
 abbrev pub sentence : Explanation → List ℕ
 sentence explanation.Fine = codes "all in order"
 sentence (explanation.Map f) = codes "the map: " ++ map_text f

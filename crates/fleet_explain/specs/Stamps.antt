@@ -12,9 +12,11 @@ use Rattle.fleet_explain.specs.declared.stamp.RobotStamp.{RobotStamp}
 abbrev pub by_law : ℕ → ℕ → StampLaw → RobotStamp
 by_law robot stamp law = record { robot = robot; stamp = stamp; low = law.low; high = law.high }
 
+-- the stamp of a robot's arrival, with what the law of its arrivals allows
 abbrev pub arrival_stamp : {A : Type 0} → List (RobotState A) → ℕ → ℕ → RobotStamp
 arrival_stamp robots robot stamp = by_law robot stamp (slice_index_or (map (λ x. x.arrival_law) robots) robot no_law)
 
+-- the stamp of a robot's farewell, with what the law of its farewell allows
 abbrev pub farewell_stamp : {A : Type 0} → List (RobotState A) → ℕ → ℕ → RobotStamp
 farewell_stamp robots robot stamp = by_law robot stamp (slice_index_or (map (λ x. x.farewell_law) robots) robot no_law)
 
@@ -26,9 +28,11 @@ stamps_of robots (Tick to arrived farewells) =
 stamps_of robots (Shut robot None) = []
 stamps_of robots (Shut robot (Some stamp)) = farewell_stamp robots robot stamp ∷ []
 
+-- whether the stamp is less than the law's least, or greater than its greatest
 abbrev pub is_outside : RobotStamp → Bool
 is_outside s = nat_lt s.stamp s.low || nat_lt s.high s.stamp
 
+-- the first of the stamps that is outside of its law; `None` where none is
 abbrev pub first_outside : List RobotStamp → Option RobotStamp
 first_outside [] = None
 first_outside (s ∷ stamps) = if is_outside s then Some s else first_outside stamps

@@ -12,6 +12,7 @@ use Rattle.fleet_explain.specs.Limits.{value_of, IsFirstOut}
 abbrev pub off_floor : ℕ → ℕ → ℕ → StartFault
 off_floor cells robot cell = if nat_lt cell cells then fault.OffFloor robot cell else fault.Outside robot cell cells
 
+-- the first reason why a fleet cannot begin on these cells, with these clients and limits
 abbrev pub IsStartFault : Floor → List ℕ → ℕ → Limits → StartFault → Type 0
 IsStartFault m starts clients limits (fault.Limit f) = IsStartRefused m starts clients limits refusal.Limits × IsFirstOut limits clients f.kind × (f.value ≡ value_of limits clients f.kind)
 IsStartFault m starts clients limits fault.Robots = IsStartRefused m starts clients limits refusal.NoRobots

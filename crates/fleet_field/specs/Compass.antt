@@ -14,6 +14,7 @@ abbrev pub next_cell : ℕ → ℕ → ℕ → Option ℕ
 next_cell width ways cell =
     cond (bit_at ways 0 == 1) (Some (cell - width)) (cond (bit_at ways 1 == 1) (Some (cell + 1)) (cond (bit_at ways 2 == 1) (Some (cell + width)) (cond (bit_at ways 3 == 1) (Some (cell - 1)) None)))
 
+-- what `f` gives for the cell; `None` where there is no cell
 abbrev pub go_on : Option ℕ → (ℕ → Option ℕ) → Option ℕ
 go_on (Some cell) f = f cell
 go_on None f = None

@@ -10,7 +10,7 @@ pub record Aim : Type 0 where
   pub away : List (Option ℕ)
   pub exits : List ℕ
 
--- without exits
+-- a goal and its distances, without exits
 abbrev pub aim_of : ℕ → List (Option ℕ) → Aim
 aim_of goal away = record { goal = goal; away = away; exits = [] }
 

@@ -29,6 +29,6 @@ HasKept kept aimed = (field : Aim) × Contains kept field × (field.goal ≡ aim
 abbrev pub AreKept : List ℕ → List Aim → Type 0
 AreKept goals kept = (i : ℕ) → i < length goals → HasKept kept (slice_index goals i)
 
--- it is the field of one of the goals
+-- the field is that of one of the goals
 abbrev pub IsFieldOf : Floor → List ℕ → Aim → Type 0
 IsFieldOf m goals field = (i : ℕ) × (i < length goals) × IsField m (slice_index goals i) field

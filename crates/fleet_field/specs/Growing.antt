@@ -19,6 +19,7 @@ pub record Growth : Type 0 where
   pub mark : ℕ
   pub search : Search
 
+-- what a field knows, without where it lies in memory
 abbrev pub growth_of : {A : Type 0} → GrowingField A → Growth
 growth_of f = record { goal = f.goal; target = f.target; mark = f.mark; search = search_of f }
 
@@ -40,6 +41,7 @@ pub record IsGrown (m : Floor) (f : Growth) : Type 0 where
   pub mark : f.mark ≡ label steps
   pub known : IsKnown m f.target f.goal steps f.search
 
+-- the goal of a field: the cell to which its distances are
 abbrev pub goal_of : {A : Type 0} → GrowingField A → ℕ
 goal_of f = f.goal
 

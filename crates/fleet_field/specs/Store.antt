@@ -22,7 +22,7 @@ Keeps m cache = All (λ field. IsField m field.goal field) cache.kept
 abbrev pub HasUsesLeft : List (Option (Held Aim)) → ℕ → ℕ → Type 0
 HasUsesLeft store aimed more = (key : ℕ) (held : Held Aim) → shown store key ≡ Some held → held.field.goal ≡ aimed → held.uses + more < 2 ^ 32
 
--- the same field, held once more; or the goal's field, held once
+-- what was held at a key is held once more; where nothing was, the goal's field is held once
 abbrev pub IsHeldMore : Floor → ℕ → Option (Held Aim) → Option (Held Aim) → Type 0
 IsHeldMore m aimed (Some held) now = (held.field.goal ≡ aimed) × (now ≡ Some (record held { uses = held.uses + 1 }))
 IsHeldMore m aimed None now = (held : Held Aim) × (now ≡ Some held) × IsField m aimed held.field × (held.uses ≡ 1)

@@ -3,6 +3,7 @@ use Rattle.std.specs.Prelude.{ℕ, ◌+◌, ◌%◌, ◌==◌, ◌&&◌, not, Bo
 use Rattle.std.specs.List.{range_with_len}
 use Rattle.fleet_grid.specs.Floor.{Floor, is_floor_letter, is_floor}
 
+-- how many cells of the map are floor
 abbrev pub floor_count : Floor → ℕ
 floor_count m = count_by is_floor_letter m.letters
 

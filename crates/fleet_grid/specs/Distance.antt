@@ -16,6 +16,7 @@ abbrev pub is_walk_long : Floor → ℕ → ℕ → ℕ → Bool
 is_walk_long m zero a b = a == b
 is_walk_long m (suc k) a b = list_any (λ c. is_neighbour m a c && is_walk_long m k c b) (range_with_len 0 (length m.letters))
 
+-- the number that was found before, or else `k` if it passes; `None` where neither is there
 abbrev pub or_this : Option ℕ → Bool → ℕ → Option ℕ
 or_this (Some d) passes k = Some d
 or_this None true k = Some k

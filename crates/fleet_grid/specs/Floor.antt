@@ -11,6 +11,7 @@ pub record Floor : Type 0 where
   pub width : ℕ
   pub letters : List ℕ
 
+-- the map with this height, this width and these letters
 abbrev pub floor_of : ℕ → ℕ → List ℕ → Floor
 floor_of height width letters = record { height = height; width = width; letters = letters }
 
@@ -32,6 +33,7 @@ is_floor_letter letter = (letter == 46) || (letter == 71) || (letter == 83)
 abbrev pub is_floor : Floor → ℕ → Bool
 is_floor m cell = is_floor_letter (slice_index m.letters cell)
 
+-- the cell is a floor cell of the map
 abbrev pub IsFloor : Floor → ℕ → Type 0
 IsFloor m cell = IsTrue (is_floor m cell)
 

@@ -11,6 +11,7 @@ IsOpen places v = (v < length places) × (slice_index places v ≢ 4294967294)
 abbrev pub place : ℕ → ℕ → ℕ → ℕ
 place width stride cell = (cell / width + 1) * stride + cell % width
 
+-- the list is the padded form of the map, with `stride` places a row, of which one or more after the cells are wall
 pub record IsPadded (m : Floor) (stride : ℕ) (blank : List ℕ) : Type 0 where
   pub apart : m.width < stride
   pub small : length blank < 1073741824

@@ -31,6 +31,7 @@ pub record IsBridge (Near : ℕ → ℕ → Type 0) (a b : ℕ) : Type 0 where
   pub edge : Near a b
   pub alone : AreJoined (Besides Near a b) a b → ⊥
 
+-- no edge is a bridge
 abbrev pub IsBridgeless : (ℕ → ℕ → Type 0) → Type 0
 IsBridgeless Near = (a b : ℕ) → IsBridge Near a b → ⊥
 

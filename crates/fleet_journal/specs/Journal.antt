@@ -17,6 +17,7 @@ use Rattle.fleet_journal.specs.declared.fault.JournalFault.TheVariants as fault
 abbrev pub Head : Type 0 → Type 0
 Head A = ℕ × Opening A
 
+-- whether there is a number, and it is that of the second version
 abbrev pub is_second : Option ℕ → Bool
 is_second None = false
 is_second (Some n) = n == 2
@@ -28,10 +29,11 @@ head_in d = if is_second (option_and_then count_in (get (codes "version") d)) th
     (option_and_then count_in (get (codes "chapter") d))
     else None
 
--- a first line, and a line of an entry: the text of a JSON value that tells it
+-- a first line: the text of a JSON value that tells the chapter's number and its opening
 abbrev pub IsHeadLine : {A : Type 0} → List ℕ → Head A → Type 0
 IsHeadLine line h = (d : Data) × IsJson line d × (head_in d ≡ Some h)
 
+-- a line of an entry: the text of a JSON value that tells the entry
 abbrev pub IsEntryLine : {A : Type 0} → List ℕ → Entry A → Type 0
 IsEntryLine line e = (d : Data) × IsJson line d × (entry_in Second d ≡ Some e)
 

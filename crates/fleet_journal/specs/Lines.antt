@@ -3,6 +3,7 @@ use Rattle.std.specs.Prelude.{ℕ, List, [], ◌∷◌, ◌++◌}
 use Rattle.std.specs.List.{slice_split}
 use Rattle.fleet_map.specs.Text.{is_line_feed}
 
+-- the list without its last item
 abbrev pub but_last : List (List ℕ) → List (List ℕ)
 but_last [] = []
 but_last (x ∷ []) = []

@@ -11,12 +11,15 @@ use Rattle.fleet_trace.specs.Trace.{Trace}
 abbrev pub head_data : {A : Type 0} → ℕ → Opening A → Data
 head_data n o = object (member (codes "chapter") (counted n) (member (codes "opening") (opening_data o) (member (codes "version") (counted 2) no_members)))
 
+-- the first line, with its line feed
 abbrev pub head_line : {A : Type 0} → ℕ → Opening A → List ℕ
 head_line n o = compact_text (head_data n o) ++ 10 ∷ []
 
+-- the line of an entry, with its line feed
 abbrev pub entry_line : {A : Type 0} → Entry A → List ℕ
 entry_line e = compact_text (entry_data e) ++ 10 ∷ []
 
+-- the lines of the entries, in order
 abbrev pub entry_lines : {A : Type 0} → List (Entry A) → List ℕ
 entry_lines [] = []
 entry_lines (e ∷ es) = entry_line e ++ entry_lines es

@@ -156,6 +156,7 @@ figures_by json None = Some (if json then figures.Json else figures.Lines)
 figures_by true (Some word) = None
 figures_by false (Some word) = table_named word
 
+-- how the words after `stats` say that figures are printed; `None` where they name two ways, or no table
 abbrev pub figures_in : List Row → Option Figures
 figures_in rows = figures_by (has_flag (codes "json") rows) (first_of (codes "csv") rows)
 

@@ -22,9 +22,11 @@ use Rattle.fleet_conflicts.specs.Conflicts.{AreConflictsOf}
 use Rattle.fleet_lib.specs.declared.check.PlanRules.{PlanRules}
 use Rattle.fleet_lib.specs.Said.{Outcome}
 
+-- a text for the output, with this status
 abbrev pub good : List ℕ → ℕ → Outcome
 good text status = record { output = text; status = status; complaint = [] }
 
+-- a text for the error writer, with this status
 abbrev pub refused : List ℕ → ℕ → Outcome
 refused complaint status = record { output = []; status = status; complaint = complaint }
 
@@ -75,13 +77,16 @@ sized (Some count) a = counted count a
 abbrev pub conflict_text : Conflict → List ℕ
 conflict_text c = codes "invalid " ++ (decimal c.time ++ (codes " " ++ (fault_text c.fault ++ codes "\n")))
 
+-- the lines of conflicts
 abbrev pub conflicts_text : List Conflict → List ℕ
 conflicts_text [] = []
 conflicts_text (c ∷ cs) = conflict_text c ++ conflicts_text cs
 
+-- each conflict of the plan is said, with status 6
 abbrev pub AreSaid : TextForm → List ℕ → List ℕ → Outcome → Type 0
 AreSaid form map plan said = (conflicts : List Conflict) × AreConflictsOf form map plan conflicts × (said ≡ good (conflicts_text conflicts) 6)
 
+-- all conflicts are said if this is asked, or else the answer
 abbrev pub IsSaidIf : Bool → TextForm → List ℕ → List ℕ → PlanAnswer → Outcome → Type 0
 IsSaidIf true form map plan a said = AreSaid form map plan said
 IsSaidIf false form map plan a said = said ≡ outcome_of a

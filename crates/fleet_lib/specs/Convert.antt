@@ -15,12 +15,14 @@ fault_text (fault.Trace f) = complaint_text (complaint.Trace f)
 fault_text (fault.Illegal at rule) = codes "illegal " ++ decimal at ++ codes " " ++ decimal rule
 fault_text fault.NoMemory = complaint_text complaint.Memory
 
+-- the status of a fault: 4 the map, 6 the trace, 7 memory
 abbrev pub fault_status : ConvertFault → ℕ
 fault_status (fault.Map f) = 4
 fault_status (fault.Trace f) = 6
 fault_status (fault.Illegal at rule) = 6
 fault_status fault.NoMemory = 7
 
+-- what is said of a fault, with its status
 abbrev pub faulty : ConvertFault → Outcome
 faulty f = record { output = []; status = fault_status f; complaint = codes "fleet: " ++ fault_text f ++ codes "\n" }
 

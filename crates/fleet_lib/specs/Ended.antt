@@ -75,6 +75,7 @@ pub record KeptFile : Type 0 where
   pub number : ℕ
   pub text : List ℕ
 
+-- the file of a chapter, without where its texts lie in memory
 abbrev pub file_shown : KeptText → KeptFile
 file_shown k = record { name = k.name.now; number = k.number; text = k.text.now }
 
@@ -110,10 +111,12 @@ abbrev pub TellsKeptFault : List ℕ → Option KeptFile → KeptFault → Optio
 TellsKeptFault map (Some file) why old new status = ComplainsOfKept map file.name file.text why old new status
 TellsKeptFault map None why old new status = Failed input_fault.NoMemory old new status
 
+-- that it broke off, if it did, or else why no fleet goes on
 abbrev pub TellsFault : Option TalkFault → List ℕ → Option KeptFile → KeptFault → Option (List ℕ) → Option (List ℕ) → ℕ → Type 0
 TellsFault (Some broken) map file why old new status = Complains (complaint_of broken) old new status
 TellsFault None map file why old new status = TellsKeptFault map file why old new status
 
+-- what is told of the end of a conversation, and its status
 abbrev pub TellsEnd : List ℕ → Option KeptFile → Result Bool KeptFault → Option (List ℕ) → Option (List ℕ) → ℕ → Type 0
 TellsEnd map file (Ok limited) old new status = TellsLimit limited old new status
 TellsEnd map file (Err why) old new status = TellsFault (broke why) map file why old new status

@@ -32,12 +32,15 @@ status_of (explanation.Illegal at rule kind detail) = 6
 abbrev pub outcome_of : Explanation → Outcome
 outcome_of e = good (sentence e ++ codes "\n") (status_of e)
 
+-- what is said of a map alone
 abbrev pub IsMapSaid : List ℕ → Outcome → Type 0
 IsMapSaid map o = (e : Explanation) × IsMapExplained map e × (o ≡ outcome_of e)
 
+-- what is said of a map and a script
 abbrev pub IsScriptSaid : List ℕ → List ℕ → Outcome → Type 0
 IsScriptSaid map script o = (e : Explanation) × IsScriptExplained map script e × (o ≡ outcome_of e)
 
+-- what is said of a map and a trace
 abbrev pub IsTraceSaid : List ℕ → List ℕ → Outcome → Type 0
 IsTraceSaid map trace o = (e : Explanation) × IsTraceExplained map trace e × (o ≡ outcome_of e)
 
@@ -54,9 +57,11 @@ plan_status (plan.Head f) = 6
 plan_status (plan.Placed m) = 6
 plan_status (plan.Goals f) = 6
 
+-- the sentence on a plan, and a line feed
 abbrev pub plan_outcome : PlanExplanation → Outcome
 plan_outcome e = good (plan_sentence e ++ codes "\n") (plan_status e)
 
+-- what is said of a map and a plan
 abbrev pub IsPlanSaid : List ℕ → List ℕ → Outcome → Type 0
 IsPlanSaid map plan o = (e : PlanExplanation) × IsPlanExplained map plan e × (o ≡ plan_outcome e)
 
@@ -68,8 +73,10 @@ head_status (head.Map e) = 4
 head_status (head.Line n f) = 5
 head_status (head.Start f width) = 5
 
+-- the sentence on header lines, and a line feed
 abbrev pub head_outcome : HeadExplanation → Outcome
 head_outcome e = good (head_sentence e ++ codes "\n") (head_status e)
 
+-- what is said of a map and header lines
 abbrev pub IsHeadSaid : List ℕ → List ℕ → Outcome → Type 0
 IsHeadSaid map text o = (e : HeadExplanation) × IsHeadExplained map text e × (o ≡ head_outcome e)

@@ -51,6 +51,7 @@ resume_text (resume_fault.Errand x) =
 resume_text resume_fault.NoRooms = codes "the rooms of the map do not pass their checks"
 resume_text (resume_fault.Talk f) = codes "the conversation broke off"
 
+-- the reason, in the words of the error writer
 abbrev pub reason_text : Reason → List ℕ
 reason_text (reason.Explained e) = sentence e
 reason_text (reason.Number number) = codes "it is chapter " ++ decimal number

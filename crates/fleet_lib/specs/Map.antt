@@ -14,11 +14,13 @@ fault_text (fault.Map f) = complaint_text (complaint.Map f)
 fault_text (fault.Cells line) = codes "cells " ++ decimal line
 fault_text fault.NoMemory = codes "memory"
 
+-- the status of a fault: 4 the map, 5 the list of cells, 7 memory
 abbrev pub fault_status : SurveyFault → ℕ
 fault_status (fault.Map f) = 4
 fault_status (fault.Cells line) = 5
 fault_status fault.NoMemory = 7
 
+-- what is said of a fault, with its status
 abbrev pub faulty : SurveyFault → Outcome
 faulty f = record { output = []; status = fault_status f; complaint = codes "fleet: " ++ (fault_text f ++ codes "\n") }
 

@@ -6,6 +6,7 @@ use Rattle.fleet_lib.specs.declared.names.Named.TheVariants as named
 use Rattle.fleet_lib.specs.declared.names.NamesFault.{NamesFault}
 use Rattle.fleet_lib.specs.declared.names.NamesFault.TheVariants as fault
 
+-- the name of the file of the chapter with this number
 abbrev pub chapter_name : ℕ → List ℕ
 chapter_name n = codes "chapter-" ++ (decimal n ++ codes ".json")
 
@@ -13,7 +14,7 @@ chapter_name n = codes "chapter-" ++ (decimal n ++ codes ".json")
 abbrev pub IsLikeName : List ℕ → Type 0
 IsLikeName name = (middle : List ℕ) × (name ≡ codes "chapter-" ++ (middle ++ codes ".json"))
 
--- it is that of none
+-- a name is that of no chapter
 abbrev pub IsNoName : List ℕ → Type 0
 IsNoName name = (n : ℕ) → n < 2 ^ 32 → name ≢ chapter_name n
 
@@ -57,6 +58,7 @@ pub record IsFirstUnreadable (names : List (List ℕ)) (at : ℕ) : Type 0 where
   pub none : IsNoName (slice_index_or names at [])
   pub before : AreReadable (take at names)
 
+-- why names name no last chapter, out of memory apart: names that are none come first
 abbrev pub IsNamesFault : List (List ℕ) → NamesFault → Type 0
 IsNamesFault names (fault.Unreadable at) = IsFirstUnreadable names at
 IsNamesFault names (fault.Missing number) = AreReadable names × IsMissing names number

@@ -20,6 +20,7 @@ abbrev pub plan_refused : PlanAnswer → Outcome
 plan_refused (answer.Invalid f) = refused (codes "fleet: " ++ invalid_text f) 6
 plan_refused a = outcome_of a
 
+-- why a plan becomes no trace, with the status
 abbrev pub untraced : TracingFault → Outcome
 untraced (fault.NoPlan a) = plan_refused a
 untraced fault.TooManyRobots = refused (codes "fleet: 512 robots at most\n") 6
@@ -36,6 +37,7 @@ abbrev pub IsTracedBy : List ℕ → List ℕ → Traced → Type 0
 IsTracedBy map plan (told.Trace text) = IsTraced map plan text.items
 IsTracedBy map plan (told.Refused said) = (f : TracingFault) × IsUntraced map plan f × (said_of said ≡ untraced f)
 
+-- by whether the text is a plan: its trace, or else the text itself
 abbrev pub IsTracedIf : Bool → List ℕ → List ℕ → Traced → Type 0
 IsTracedIf true map input t = IsTracedBy map input t
 IsTracedIf false map input (told.Trace text) = text.items ≡ input
@@ -55,6 +57,7 @@ abbrev pub IsShownBy : List ℕ → List ℕ → Traced → Type 0
 IsShownBy map plan (told.Trace text) = IsTraced map plan text.items ⊎ ((shown : String Global) × IsInvalidShown map plan (Some shown) × (text.items ≡ string_bytes shown))
 IsShownBy map plan (told.Refused said) = (f : TracingFault) × IsUntraced map plan f × (said_of said ≡ untraced f) × (is_conflict f ≡ true → IsInvalidShown map plan None)
 
+-- by whether the text is a plan: its trace to be looked at, or else the text itself
 abbrev pub IsShownIf : Bool → List ℕ → List ℕ → Traced → Type 0
 IsShownIf true map input t = IsShownBy map input t
 IsShownIf false map input (told.Trace text) = text.items ≡ input

@@ -12,6 +12,7 @@ use Rattle.fleet_trace.specs.declared.fault.TraceFault.{TraceFault}
 use Rattle.fleet_trace.specs.declared.fault.TraceFault.TheVariants as trace_fault
 use Rattle.live_parts.specs.Recalls.{IsCounted, Recalls, recall_of, wants_more, with_before}
 
+-- the number, where it is at most 16,777,216
 abbrev pub few : ℕ → Option ℕ
 few n = if nat_le n 16777216 then Some n else None
 
@@ -28,7 +29,7 @@ pub record AddsChapter (h : History Global) (old new : Recalls) (more : Bool) : 
   -- there is more room, and there were notices before
   pub wants : more ≡ list_any (λ c. wants_more old.most (client_at h c) (recall_of new c)) (range_with_len 0 (clients h))
 
--- those of the chapter that a text tells; none of a text that tells none
+-- the notices of the chapter that a text tells are kept so; none of a text that tells none
 pub data AddsTrace (text : List ℕ) (old new : Recalls) (more : Bool) : Type 0 where
   told : (t : Trace Global) → Tells text t → AddsChapter t.history old new more → AddsTrace text old new more
   untold : (f : TraceFault) → IsTraceFault text f → f ≢ trace_fault.NoMemory → new ≡ old → more ≡ false → AddsTrace text old new more

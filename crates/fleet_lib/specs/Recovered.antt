@@ -26,9 +26,11 @@ use Rattle.fleet_lib.specs.declared.recovering.Recovered.{Recovered}
 
 -- ---- what was written
 
+-- whether the byte is zero
 abbrev pub is_zero : ℕ → Bool
 is_zero byte = byte == 0
 
+-- the bytes before this place; all where there is none
 abbrev pub until : Option ℕ → List ℕ → List ℕ
 until None bytes = bytes
 until (Some at) bytes = take at bytes
@@ -67,6 +69,7 @@ pub record IsRecovered (map : List ℕ) (before : Option (List ℕ)) (journal : 
 
 -- ---- why none goes on
 
+-- why the map cannot be read, unless memory ran out
 abbrev pub IsUnreadMap : List ℕ → RecoverFault → Type 0
 IsUnreadMap map fault.Map = (f : MapFault) × (map_of map ≡ Err f)
 IsUnreadMap map fault.NoMemory = ⊤
@@ -87,6 +90,7 @@ pub record IsIllegalLine (map : List ℕ) (m : Floor) (h : History Global) (trac
   pub place : line ≡ line_after at 1
   pub explained : IsTraceExplained map trace e
 
+-- why the chapter of a journal is not legal, unless memory ran out
 abbrev pub IsUnlawful : List ℕ → Floor → History Global → List ℕ → RecoverFault → Type 0
 IsUnlawful map m h trace (fault.Illegal line e) = IsIllegalLine map m h trace line e
 IsUnlawful map m h trace fault.NoMemory = ⊤
@@ -96,6 +100,7 @@ IsUnlawful map m h trace _ = ⊥
 abbrev pub IsAstray : Floor → List ℕ → List ℕ → Type 0
 IsAstray m before text = (f : ChaptersFault) × IsChaptersFault m (before ∷ text ∷ []) f × (f ≢ chapters_fault.NoMemory)
 
+-- the text does not follow the one before, if there is one
 abbrev pub IsAstrayAfter : Floor → Option (List ℕ) → List ℕ → Type 0
 IsAstrayAfter m None text = ⊥
 IsAstrayAfter m (Some before) text = IsAstray m before text
@@ -111,6 +116,7 @@ pub data IsRecoverFault (map : List ℕ) (before : Option (List ℕ)) (journal :
 
 -- ---- what is said of it
 
+-- why no fleet goes on from a journal, in the words of the error writer
 abbrev pub recover_text : RecoverFault → List ℕ
 recover_text fault.Map = codes "its map is none"
 recover_text fault.Empty = codes "it has no whole line"

@@ -12,6 +12,7 @@ pub record Outcome : Type 0 where
   pub status : ℕ
   pub complaint : List ℕ
 
+-- what the program has to say, without its memory
 abbrev pub said_of : Said → Outcome
 said_of s = record { output = s.output.items; status = s.status; complaint = string_bytes s.complaint }
 

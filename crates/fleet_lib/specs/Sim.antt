@@ -45,6 +45,7 @@ trouble_text trouble.Full = codes "history full"
 trouble_text trouble.Illegal = codes "history illegal"
 trouble_text trouble.NoMemory = codes "memory"
 
+-- the status of a trouble: 4 the map or its floor, 5 the list of cells, 6 the run, 7 memory
 abbrev pub trouble_status : SimTrouble → ℕ
 trouble_status (trouble.Map f) = 4
 trouble_status (trouble.Cells line) = 5
@@ -54,6 +55,7 @@ trouble_status trouble.Full = 6
 trouble_status trouble.Illegal = 6
 trouble_status trouble.NoMemory = 7
 
+-- what is said of a trouble, with its status
 abbrev pub troubled : SimTrouble → Outcome
 troubled t = record { output = []; status = trouble_status t; complaint = codes "fleet: " ++ (trouble_text t ++ codes "\n") }
 

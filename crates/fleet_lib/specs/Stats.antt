@@ -12,6 +12,7 @@ use Rattle.fleet_lib.specs.declared.words.stats.Figures.{Figures}
 use Rattle.fleet_lib.specs.declared.words.stats.Figures.TheVariants as figures
 use Rattle.fleet_lib.specs.Said.{Outcome}
 
+-- the form of the text in which figures are printed
 abbrev pub form_of : Figures → StatsForm
 form_of figures.Lines = form.Text
 form_of figures.Json = form.Json
@@ -32,6 +33,7 @@ fault_text names (fault.Late number) = name_at names number ++ codes ": late"
 fault_text names (fault.Illegal number at rule) = name_at names number ++ (codes ": illegal " ++ (decimal at ++ (codes " " ++ decimal rule)))
 fault_text names fault.NoMemory = codes "memory"
 
+-- the status of a fault: 4 the map, 6 a trace, 7 memory
 abbrev pub fault_status : StatsFault → ℕ
 fault_status (fault.Map f) = 4
 fault_status (fault.Trace number f) = 6
@@ -40,6 +42,7 @@ fault_status (fault.Late number) = 6
 fault_status (fault.Illegal number at rule) = 6
 fault_status fault.NoMemory = 7
 
+-- what is said of a fault, with its status
 abbrev pub faulty : List (List ℕ) → StatsFault → Outcome
 faulty names f = record { output = []; status = fault_status f; complaint = codes "fleet: " ++ (fault_text names f ++ codes "\n") }
 

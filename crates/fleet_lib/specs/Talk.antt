@@ -20,6 +20,7 @@ use Rattle.fleet_lib.specs.Said.{Failed}
 
 -- ---- complaints
 
+-- the whole line that the error writer is told
 abbrev pub complaint_line : Complaint → List ℕ
 complaint_line c = codes "fleet: " ++ complaint_text c ++ codes "\n"
 
@@ -39,6 +40,7 @@ complaint_of fault.NoMemory = complaint.Memory
 
 -- ---- the map and the head
 
+-- the text is a map with this floor, and the header lines say this
 pub record IsGround (map head : List ℕ) (floor : Floor) (said : Draft) : Type 0 where
   pub text : Map
   pub is_map : IsMapText map text

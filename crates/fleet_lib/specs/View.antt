@@ -23,6 +23,7 @@ fault_text (fault.Chapter number) = codes "chapter " ++ decimal number
 fault_text (fault.OffMap number) = codes "off-map " ++ decimal number
 fault_text fault.NoMemory = complaint_text complaint.Memory
 
+-- the status of a fault: 4 the map, 6 a trace, 7 memory
 abbrev pub fault_status : ViewFault → ℕ
 fault_status (fault.Map f) = 4
 fault_status (fault.Trace f) = 6
@@ -30,6 +31,7 @@ fault_status (fault.Chapter number) = 6
 fault_status (fault.OffMap number) = 6
 fault_status fault.NoMemory = 7
 
+-- what is said of a fault, with its status
 abbrev pub faulty : ViewFault → Outcome
 faulty f = record { output = []; status = fault_status f; complaint = codes "fleet: " ++ fault_text f ++ codes "\n" }
 

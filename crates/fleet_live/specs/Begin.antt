@@ -39,7 +39,7 @@ on_pipe clients at = new_speaker (record { is_operator = false; ticks = false })
 abbrev pub speakers_for : (pipes clients : ℕ) → (paced watch : Bool) → List Speaker
 speakers_for pipes clients paced watch = operator pipes clients paced watch ∷ map (on_pipe clients) (range_with_len 0 pipes)
 
--- those of a fleet that is kept so, with this number of pairs of pipes
+-- the conversations of a fleet that is kept so, with this number of pairs of pipes
 abbrev pub speakers_at : LiveSettings → (pipes : ℕ) → History Global → List Speaker
 speakers_at settings pipes h = speakers_for pipes (clients h) (is_some settings.period) settings.watch
 
@@ -59,6 +59,7 @@ first_stage s recalls door who = record {
 abbrev pub IsNew : TextOut → Type 0
 IsNew x = (x.ahead ≡ 0) × (handed x ≡ [])
 
+-- nothing was handed on for any conversation
 abbrev pub AreNew : List TextOut → Type 0
 AreNew texts = AllByRecursion IsNew texts
 

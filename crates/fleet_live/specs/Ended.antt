@@ -48,6 +48,7 @@ else_cause stop (Err fault) is_written = fault
 else_cause stop (Ok _) true = stop
 else_cause stop (Ok _) false = Output
 
+-- why a fleet counts as stopped: a fault that stopped it comes before all else
 abbrev pub cause : Stop → Result ⊤ Stop → Bool → Stop
 cause Quit kept is_written = else_cause Quit kept is_written
 cause Limit kept is_written = else_cause Limit kept is_written

@@ -21,6 +21,7 @@ pub record LogView : Type 0 where
   pub number : ℕ
   pub entries : ℕ
 
+-- how far a journal of the program is
 abbrev pub log_view : {J : Type 0} → (J → List (ChapterView Global)) → Option J → ℕ → ℕ → LogView
 log_view logged journal number entries = record { logged = option_map logged journal; number = number; entries = entries }
 
@@ -28,7 +29,7 @@ log_view logged journal number entries = record { logged = option_map logged jou
 abbrev pub count_at : LogView → ℕ → ℕ
 count_at v n = if n == v.number then v.entries else 0
 
--- it has these chapters, and of the next one the entries that it was given
+-- the journal has these chapters, and of the next one the entries that it was given
 abbrev pub IsAt : LogView → List (ChapterView Global) → ChapterView Global → Type 0
 IsAt v before c = IfSome v.logged (λ logged. (count_at v c.number ≤ length c.history.entries) × (logged ≡ with_first before c (count_at v c.number)))
 
@@ -42,12 +43,13 @@ abbrev pub with_all : List (ChapterView Global) → ChapterView Global → Bool 
 with_all before c true = before ++ c ∷ []
 with_all before c false = with_first before c (length c.history.entries)
 
--- it has these chapters, and all entries of the next one
+-- the journal has these chapters, and all entries of the next one
 abbrev pub HasAll : LogView → List (ChapterView Global) → ChapterView Global → Bool → Type 0
 HasAll v before c handed_out = IfSome v.logged (λ logged. (v.number ≡ c.number) × (v.entries ≡ length c.history.entries) × (logged ≡ with_all before c handed_out))
 
 -- ---- the chapters that wait to be handed on, and the one that goes on
 
+-- the first of the chapters that wait, or else the one that goes on
 abbrev pub first_of : List (ChapterView Global) → ChapterView Global → ChapterView Global
 first_of [] c = c
 first_of (x ∷ xs) c = x
@@ -57,7 +59,7 @@ abbrev pub AreNumbered : List (ChapterView Global) → ChapterView Global → Ty
 AreNumbered [] c = ⊤
 AreNumbered (x ∷ xs) c = ((first_of xs c).number ≡ x.number + 1) × AreNumbered xs c
 
--- it has the chapters before them, and the first entries of the first of them
+-- the journal has the chapters before those that wait, and the first entries of the first of them
 pub record IsReady (v : LogView) (before waits : List (ChapterView Global)) (c : ChapterView Global) : Type 0 where
   pub numbered : AreNumbered waits c
   pub at : IsAt v before (first_of waits c)
@@ -109,6 +111,7 @@ pub record Logs (s t : Stage) (events : List Heard) (told new_told : ℕ → Lis
 
 -- ---- why it could not be written
 
+-- why a fleet stops whose journal could not be written
 abbrev pub stop_for : SinkFault → Stop
 stop_for File = stop.Sink
 stop_for NoMemory = stop.NoMemory

@@ -30,7 +30,7 @@ next_heard next.Hand bytes = []
 next_heard next.Search bytes = []
 next_heard next.Over bytes = []
 
--- it may be heard
+-- the event that is to be heard next may be heard, if it is one
 abbrev pub MayHear : Stage → Next → List ℕ → Type 0
 MayHear s (next.Hear event) bytes = CanHear s (heard_by event bytes)
 MayHear s next.Hand bytes = ⊤

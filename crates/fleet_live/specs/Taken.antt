@@ -11,9 +11,11 @@ use Rattle.fleet_live.specs.declared.lines_in.LinesIn.{LinesIn}
 use Rattle.fleet_live.specs.declared.shelf.SoundChapters.{SoundChapters}
 use Rattle.fleet_live.specs.Loop.{heard_by}
 
+-- what a fleet heard, by what was noted of it
 abbrev pub noted : Noted → Heard
 noted n = heard_by n.asked.value n.line.value.items
 
+-- whether the byte is a line feed
 abbrev pub is_line_feed : ℕ → Bool
 is_line_feed byte = byte == 10
 

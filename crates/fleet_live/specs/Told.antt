@@ -13,18 +13,21 @@ pub record HandsText (old new : TextOut) (text new_text : List ℕ) : Type 0 whe
   pub told : told_in_all (handed new) new.ahead new_text ≡ told_in_all (handed old) old.ahead text
   pub within : new.ahead ≤ length new_text
 
--- by conversation
+-- what was handed on for a conversation; nothing for one that there is not
 abbrev pub handed_of : Option TextOut → List ℕ
 handed_of None = []
 handed_of (Some x) = handed x
 
+-- how many bytes of what waits are in the ring already; 0 without a ring
 abbrev pub ahead_of : Option TextOut → ℕ
 ahead_of None = 0
 ahead_of (Some x) = x.ahead
 
+-- what was handed on for the conversation with this number
 abbrev pub handed_at : List TextOut → ℕ → List ℕ
 handed_at texts k = handed_of (slice_get texts k)
 
+-- how many bytes of what waits for the conversation with this number are in its ring already
 abbrev pub ahead_at : List TextOut → ℕ → ℕ
 ahead_at texts k = ahead_of (slice_get texts k)
 

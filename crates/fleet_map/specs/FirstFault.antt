@@ -13,9 +13,11 @@ abbrev pub Lacks : (List ℕ → Bool) → List (List ℕ) → Type 0
 Lacks in_form [] = Unit {0}
 Lacks in_form (line ∷ lines) = in_form line ≡ false
 
+-- whether the line gives the side of this name
 abbrev pub gives_side : List ℕ → List ℕ → Bool
 gives_side name line = is_some (side_on name line)
 
+-- whether the line gives the height or the width
 abbrev pub gives_a_side : List ℕ → Bool
 gives_a_side line = gives_side (codes "height") line || gives_side (codes "width") line
 
@@ -40,6 +42,7 @@ pub record AreRowsBefore (lines : List (List ℕ)) (height width : ℕ) (rows re
   pub fit : (is_side height && is_side width) ≡ true
   pub each_row : AllByRecursion (IsRow width) rows
 
+-- the fault is the first in these lines; lines and rows before it are in their form
 pub data IsFirstFault (lines : List (List ℕ)) : MapFault → Type 0 where
   first_line : Lacks is_type_line lines → IsFirstFault lines (Header 1)
   second_line : (first : List ℕ) (rest : List (List ℕ)) → lines ≡ first ∷ rest → is_type_line first ≡ true → Lacks gives_a_side rest → IsFirstFault lines (Header 2)

@@ -14,16 +14,19 @@ pub record Map : Type 0 where
   pub width : ℕ
   pub cells : List ℕ
 
+-- the map that the program holds, without its memory
 abbrev pub view : {A : Type 0} → MapText A → Map
 view m = record { height = m.height; width = m.width; cells = m.cells.items }
 
 -- ---- steps that may fault
 
 infixl 10 ◌>>=◌
+-- the next step on what the first one gives, or the fault of the first
 abbrev pub ◌>>=◌ : {A B : Type 0} → Result A MapFault → (A → Result B MapFault) → Result B MapFault
 (Ok x) >>= f = f x
 (Err e) >>= f = Err e
 
+-- reading gives this fault; out of memory says nothing of what reading gives
 abbrev pub Fails : {Y : Type 0} → MapFault → Result Y MapFault → Type 0
 Fails NoMemory read = Unit {0}
 Fails fault read = read ≡ Err fault
@@ -33,15 +36,17 @@ abbrev pub Shows : {X Y : Type 0} → (X → Y) → Result X MapFault → Result
 Shows see (Ok x) read = read ≡ Ok (see x)
 Shows see (Err e) read = read ≡ Err e
 
--- the same, unless memory ran out
+-- what a function returned, seen by see, is what reading gives, unless memory ran out
 abbrev pub Gives : {X Y : Type 0} → (X → Y) → Result X MapFault → Result Y MapFault → Type 0
 Gives see (Ok x) read = read ≡ Ok (see x)
 Gives see (Err e) read = Fails e read
 
+-- the value, or this fault where there is none
 abbrev pub need : {A : Type 0} → MapFault → Option A → Result A MapFault
 need fault None = Err fault
 need fault (Some x) = Ok x
 
+-- nothing if the test passes, or else this fault
 abbrev pub only_if : Bool → MapFault → Result (Unit {0}) MapFault
 only_if test fault = if test then Ok tt else Err fault
 
@@ -52,6 +57,7 @@ abbrev pub line_at : ℕ → List (List ℕ) → Result (List ℕ × List (List 
 line_at number [] = Err (Header number)
 line_at number (line ∷ lines) = Ok (line, lines)
 
+-- the two words; `None` where there are fewer or more
 abbrev pub pair_of : List (List ℕ) → Option (List ℕ × List ℕ)
 pair_of (key ∷ word ∷ []) = Some (key, word)
 pair_of words = None
@@ -60,10 +66,12 @@ pair_of words = None
 abbrev pub key_and_word : List ℕ → Option (List ℕ × List ℕ)
 key_and_word line = if begins_with_word line then pair_of (words_of line) else None
 
+-- whether the first of two words is `type`, and the second has no carriage return
 abbrev pub is_type_pair : Option (List ℕ × List ℕ) → Bool
 is_type_pair None = false
 is_type_pair (Some p) = bytes_eq p.0 (codes "type") && not (list_any (λ b. b == 13) p.1)
 
+-- whether the line is `type` and one more word
 abbrev pub is_type_line : List ℕ → Bool
 is_type_line line = is_type_pair (key_and_word line)
 
@@ -71,15 +79,18 @@ is_type_line line = is_type_pair (key_and_word line)
 abbrev pub side_on : List ℕ → List ℕ → Option ℕ
 side_on name line = option_and_then (λ p. if bytes_eq p.0 name then option_map (λ n. min n 1025) (number_of p.1) else None) (key_and_word line)
 
+-- whether the line is `map`, with blanks and tabs after it or none
 abbrev pub is_map_line : List ℕ → Bool
 is_map_line line = bytes_eq (trimmed line) (codes "map")
 
+-- the side of this name on the first line, which has this number, and the lines after it
 unfoldable pub side_at : List ℕ → ℕ → List (List ℕ) → Result (ℕ × List (List ℕ)) MapFault
 side_at name number lines = do
   line ← line_at number lines
   side ← need (Header number) (side_on name line.0)
   Ok (side, line.1)
 
+-- height, width and the lines after line 3, by the sides that line 2 gave; without one, line 2 is at fault
 abbrev pub sides_behind : Option ℕ → Option ℕ → List (List ℕ) → Result (ℕ × ℕ × List (List ℕ)) MapFault
 sides_behind (Some height) width lines = side_at (codes "width") 3 lines >>= λ other. Ok (height, other.0, other.1)
 sides_behind None (Some width) lines = side_at (codes "height") 3 lines >>= λ other. Ok (other.0, width, other.1)
@@ -91,6 +102,7 @@ sides_at lines = do
   line ← line_at 2 lines
   sides_behind (side_on (codes "height") line.0) (side_on (codes "width") line.0) line.1
 
+-- whether the number may be a side, 1 to 1,024
 abbrev pub is_side : ℕ → Bool
 is_side n = nat_le 1 n && nat_le n 1024
 
@@ -115,10 +127,12 @@ is_letter b = (b == 46) || (b == 71) || (b == 83) || (b == 64) || (b == 79) || (
 abbrev pub odd_cell : List ℕ → Option ℕ
 odd_cell cells = position (λ b. not (is_letter b)) cells
 
+-- the cells of a row, where none is at fault; else the fault of the one at the column
 abbrev pub letters_in : ℕ → List ℕ → Option ℕ → Result (List ℕ) MapFault
 letters_in row cells None = Ok cells
 letters_in row cells (Some col) = Err (Cell row col)
 
+-- the cells of a row, or its fault: the length first, then the first cell that is no letter
 abbrev pub row_of : ℕ → ℕ → List ℕ → Result (List ℕ) MapFault
 row_of width row cells = if length cells == width then letters_in row cells (odd_cell cells) else Err (Row row)
 
@@ -140,6 +154,7 @@ unfoldable pub end_at : ℕ → List (List ℕ) → Result (Unit {0}) MapFault
 end_at number [] = Ok tt
 end_at number (line ∷ lines) = if is_empty (trimmed line) then end_at (number + 1) lines else Err (Trailing number)
 
+-- the map of these lines, or the first fault in them
 unfoldable pub map_of_lines : List (List ℕ) → Result Map MapFault
 map_of_lines lines = do
   head ← head_at lines
@@ -147,5 +162,6 @@ map_of_lines lines = do
   end ← end_at (5 + head.0) rows.1
   Ok (record { height = head.0; width = head.1; cells = rows.0 })
 
+-- the map of a text, or the first fault in it
 abbrev pub map_of : List ℕ → Result Map MapFault
 map_of bytes = map_of_lines (lines_of bytes)

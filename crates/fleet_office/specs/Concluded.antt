@@ -65,6 +65,7 @@ pub record IsTold {A : Type 0} (began : World A) (number : ℕ) (h : History A) 
   pub orders : number ≡ began.number → orders h x.number ≡ x.sent
   pub notices : number ≡ began.number → notices h x.number ≡ x.collected ++ rest
 
+-- each of these clients was told all, with its rest in the list of its number
 abbrev pub AreTold : {A : Type 0} → World A → ℕ → History A → List (ClientView A) → List (Vec Notice A) → Type 0
 AreTold {A} began number h cs rests = (k : ℕ) (x : ClientView A) → slice_get cs k ≡ Some x → (v : Vec Notice A) × (slice_get rests x.number ≡ Some v) × IsTold began number h x v.items
 

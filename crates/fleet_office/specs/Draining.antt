@@ -12,7 +12,7 @@ use Rattle.fleet_office.specs.Views.{ClientCore}
 abbrev pub IsLeft : {A : Type 0} → List (EndView A) → ClientCore A → ℕ → Type 0
 IsLeft {A} ends x n = (e : EndView A) → slice_get ends x.number ≡ Some e → length e.taken + n ≡ length x.sent
 
--- the same of the client of number c
+-- n orders are left in the lane of the client of number c
 abbrev pub AreLeft : {A : Type 0} → List (EndView A) → List (ClientCore A) → ℕ → ℕ → Type 0
 AreLeft {A} ends cs c n = (k : ℕ) (x : ClientCore A) → slice_get cs k ≡ Some x → x.number ≡ c → IsLeft ends x n
 

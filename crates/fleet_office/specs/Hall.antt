@@ -17,6 +17,7 @@ use Rattle.fleet_lanes.specs.Names.{LaneName}
 use Rattle.fleet_lanes.specs.Ends.{EndView}
 use Rattle.fleet_office.specs.Since.{GoesOn, IsSince}
 
+-- what lies under the lock: the world, the hall's ends of the rings, and how many ticks the ledger counts
 pub record HallView (A : Type 0) : Type 0 where
   pub world : World A
   -- by client
@@ -30,6 +31,7 @@ pub record RingLaw {A : Type 0} (rings : List (LaneName A)) (began w : World A) 
   pub lane : slice_get rings c ≡ Some e.lane
   pub keeps : GoesOn began.history w.history c e.taken (e.given ++ (pending w c).notices)
 
+-- each client's hall end and the world belong together
 abbrev pub RingLaws : {A : Type 0} → List (LaneName A) → World A → World A → List (EndView A) → Type 0
 RingLaws {A} rings began w ends = (c : ℕ) (e : EndView A) → slice_get ends c ≡ Some e → RingLaw rings began w c e
 
@@ -66,9 +68,11 @@ pub record Lists (A : Type 0) : Type 0 where
   pub taken : List Order
   pub given : List Notice
 
+-- the ring and the lists of a hall end
 abbrev pub lists : {A : Type 0} → EndView A → Lists A
 lists e = record { lane = e.lane; taken = e.taken; given = e.given }
 
+-- the rings and the lists of all hall ends
 abbrev pub lists_of : {A : Type 0} → List (EndView A) → List (Lists A)
 lists_of ends = map lists ends
 
@@ -98,6 +102,7 @@ pub record TakesNone {A : Type 0} (h : HallView A) (c : ℕ) (g : HallView A) : 
   pub looks : Looks h g
   pub none : (e : EndView A) → slice_get h.ends c ≡ Some e → length e.known ≡ 0
 
+-- an order of the client got this verdict, or none was there
 abbrev pub TakesOne : {A : Type 0} → HallView A → ℕ → Option Verdict → HallView A → Type 0
 TakesOne h c None g = TakesNone h c g
 TakesOne h c (Some verdict) g = TakesOrder h c verdict g
@@ -173,6 +178,7 @@ pub record TakesSome {A : Type 0} (h : HallView A) (c n : ℕ) (held : Bool) (g 
   pub takes : TakesMany n h c mid
   pub enough : IsEnough mid c n held g
 
+-- 1 for a client that met a full mailbox, 0 for another
 abbrev pub held_count : Bool → ℕ
 held_count held = if held then 1 else 0
 

@@ -23,6 +23,7 @@ pub record TickerView : Type 0 where
   pub count : ℕ
   pub parts : ℕ
 
+-- the limits and the new ends of a desk, and the name of its ledger and how many parts of it are there
 pub record DeskView (A : Type 0) : Type 0 where
   pub limits : Limits
   pub clients : List (ClientView A)
@@ -30,6 +31,7 @@ pub record DeskView (A : Type 0) : Type 0 where
   pub ledger : ℕ
   pub parts : ℕ
 
+-- the names of the rings of these hall ends
 abbrev pub rings_of : {A : Type 0} → List (EndView A) → List (LaneName A)
 rings_of ends = map (λ e. e.lane) ends
 
@@ -60,9 +62,11 @@ pub record ClientCore (A : Type 0) : Type 0 where
   pub sent : List Order
   pub collected : List Notice
 
+-- what stays of a client
 abbrev pub core : {A : Type 0} → ClientView A → ClientCore A
 core c = record { number = c.number; lane = c.lane; sent = c.sent; collected = c.collected }
 
+-- what stays of each client
 abbrev pub cores : {A : Type 0} → List (ClientView A) → List (ClientCore A)
 cores cs = map core cs
 
@@ -79,6 +83,7 @@ pub record IsSettled {A : Type 0} (ends : List (EndView A)) (c : ClientView A) :
   pub taken : (e : EndView A) → slice_get ends c.number ≡ Some e → e.taken ≡ c.sent
   pub given : (e : EndView A) → slice_get ends c.number ≡ Some e → c.collected ++ c.known ≡ e.given
 
+-- each of these clients is settled with its hall end
 abbrev pub AreSettled : {A : Type 0} → List (EndView A) → List (ClientView A) → Type 0
 AreSettled {A} ends cs = (k : ℕ) (x : ClientView A) → slice_get cs k ≡ Some x → IsSettled ends x
 

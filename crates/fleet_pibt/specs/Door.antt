@@ -36,11 +36,13 @@ pub record IsFullWithDoor (m : Floor) (door : Option Door) (from : List ℕ) (ce
 abbrev pub HasPassage : Floor → Option Door → (goal cell : ℕ) → Type 0
 HasPassage m door goal cell = (w : ℕ) → IsNeighbour m cell w → IsNearer m goal w cell → (v : ℕ) × IsPassage m door cell v × IsNearer m goal v cell
 
+-- the robot may go to a cell that is nearer to its goal, if one is next to it, and none of these is full beyond
 pub record HasWayWithDoor (m : Floor) (door : Option Door) (from : List ℕ) (goal cell : ℕ) : Type 0 where
   pub passage : HasPassage m door goal cell
   -- none of the nearer neighbours to which it may go is full beyond
   pub free : (w : ℕ) → IsPassage m door cell w → IsNearer m goal w cell → IsFullWithDoor m door from cell w → ⊥
 
+-- the purposeful step of robots with these goals, where the door is shut
 pub record IsPurposefulWithDoor (m : Floor) (door : Option Door) (goals : ℕ → Option ℕ) (from to : List ℕ) : Type 0 where
   -- no robot passes over a cell to which it may go that is nearer to its goal than its new cell, and empty before and after
   pub none_passed_over : (r w : ℕ) → r < length from → IsPassage m door (slice_index from r) w →

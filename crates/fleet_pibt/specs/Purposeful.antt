@@ -15,6 +15,7 @@ pub data IsDrawn (m : Floor) (goals : ℕ → Option ℕ) (from to : List ℕ) :
   taken : (r taker : ℕ) → taker < length from → taker ≢ r → slice_index to taker ≡ slice_index from r →
       IsDrawn m goals from to taker → IsDrawn m goals from to r
 
+-- the purposeful step from these cells to those, of robots with these goals
 pub record IsPurposeful (m : Floor) (goals : ℕ → Option ℕ) (from to : List ℕ) : Type 0 where
   -- no robot passes over a neighbour of its old cell that is nearer to its goal than its new cell, and empty before
   -- and after

@@ -37,7 +37,7 @@ pub record IsAimed {A : Type 0} (m : Floor) (h : History A) (p : Planner) : Type
   pub bridge : IsTrue p.bridgeless ↔ IsBridgeless (IsNeighbour m)
   pub kept : Keeps m p.kept
 
--- it goes by those of a history of which this is the state
+-- the planner goes by the goals after a history of which this is the state
 pub record MayPlan {A : Type 0} (m : Floor) (s : State A) (p : Planner) : Type 0 where
   pub history : History A
   pub is : IsStateOf m history s
@@ -54,7 +54,7 @@ abbrev pub begun : List Queue → Order → Verdict → Option (ℕ × ℕ)
 begun queues (Go robot cell) (Accepted number) = if is_none_left (queue_at queues robot).items then Some (robot, cell) else None
 begun queues _ _ = None
 
--- it becomes the robot's goal
+-- the goals, with the cell of such an errand as its robot's goal
 abbrev pub begun_goals : Option (ℕ × ℕ) → List (Option ℕ) → List (Option ℕ)
 begun_goals None gs = gs
 begun_goals (Some first) gs = slice_set gs first.0 (Some first.1)

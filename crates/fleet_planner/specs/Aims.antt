@@ -3,10 +3,12 @@ use Rattle.std.specs.Prelude.{◌≡◌, ℕ, List, Option, Some, None, map, sli
 use Rattle.fleet_grid.specs.Floor.{Floor, IsFloor}
 use Rattle.fleet_field.specs.Field.{Aim, IsField}
 
+-- the goal of what a robot aims at; `None` where it aims at nothing
 abbrev pub goal_in : Option Aim → Option ℕ
 goal_in None = None
 goal_in (Some aim) = Some aim.goal
 
+-- how far the cell is from that goal; `None` where it aims at nothing, or no walk leads there
 abbrev pub distance_in : Option Aim → ℕ → Option ℕ
 distance_in None cell = None
 distance_in (Some aim) cell = slice_index_or aim.away cell None

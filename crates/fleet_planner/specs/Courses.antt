@@ -13,10 +13,12 @@ pub record Courses : Type 0 where
   pub shared : List (Option Aim)
   pub own : List (Option Growth)
 
+-- what a robot's own field knows; `None` where it has none
 abbrev pub growth_in : {A : Type 0} → Option (GrowingField A) → Option Growth
 growth_in None = None
 growth_in (Some field) = Some (growth_of field)
 
+-- the goal of a robot's own field; `None` where it has none
 abbrev pub own_goal : Option Growth → Option ℕ
 own_goal None = None
 own_goal (Some field) = Some field.goal
@@ -26,7 +28,7 @@ abbrev pub first_of : Option ℕ → Option ℕ → Option ℕ
 first_of (Some goal) shared = Some goal
 first_of None shared = shared
 
--- the same, robot by robot
+-- each robot's goal: that of its own field, or else that of the shared one
 abbrev pub merged : List (Option ℕ) → List (Option ℕ) → List (Option ℕ)
 merged own [] = []
 merged [] (s ∷ shared) = s ∷ shared

@@ -4,6 +4,7 @@ use Rattle.fleet_field.specs.Field.{Aim}
 use Rattle.fleet_field.specs.Store.{shown, IsOnce}
 use Rattle.fleet_field.specs.declared.store.Held.{Held}
 
+-- the field that is held; `None` where none is
 abbrev pub field_in : Option (Held Aim) → Option Aim
 field_in None = None
 field_in (Some held) = Some held.field
@@ -21,6 +22,7 @@ fields_of store keys = map (field_at store) keys
 abbrev pub key_at : List (Option ℕ) → ℕ → Option ℕ
 key_at keys robot = slice_index_or keys robot None
 
+-- whether this is the robot's key; it may have none
 abbrev pub is_key : ℕ → Option ℕ → Bool
 is_key key None = false
 is_key key (Some own) = own == key

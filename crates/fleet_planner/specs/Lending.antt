@@ -7,10 +7,11 @@ use Rattle.fleet_pibt.specs.Eldest.{IsEldest}
 use Rattle.fleet_pibt.specs.Order.{wait_of}
 use Rattle.fleet_planner.specs.declared.lending.Lending.{Lending}
 
--- so many robots may have errands to the cell
+-- this many robots may have errands to the cell: the cells of its part are served for them
 abbrev pub IsServedFor : (core capacity : List ℕ) → (robots cell : ℕ) → Type 0
 IsServedFor core capacity robots cell = robots ≤ slice_index capacity (slice_index core cell)
 
+-- the robot's goal; `None` where it has none
 abbrev pub goal_at : List (Option ℕ) → ℕ → Option ℕ
 goal_at goals robot = slice_index_or goals robot None
 

@@ -16,6 +16,7 @@ use Rattle.fleet_pibt.specs.Ties.{IsByLaw}
 abbrev pub waits : {A : Type 0} → History A → List (Option ℕ)
 waits h = map (wait h) (range_with_len 0 (robots h))
 
+-- the cell of a robot's front; `None` where it has no front
 abbrev pub cell_of : Option Errand → Option ℕ
 cell_of None = None
 cell_of (Some f) = Some f.cell
@@ -24,6 +25,7 @@ cell_of (Some f) = Some f.cell
 abbrev pub goals : {A : Type 0} → History A → List (Option ℕ)
 goals h = map (λ r. cell_of (front h r)) (range_with_len 0 (robots h))
 
+-- the robot's goal; `None` where it has none
 abbrev pub goal_of : List (Option ℕ) → ℕ → Option ℕ
 goal_of gs r = slice_index_or gs r None
 

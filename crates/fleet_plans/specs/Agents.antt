@@ -13,6 +13,7 @@ use Rattle.fleet_plans.specs.Places.{is_number}
 use Rattle.fleet_plans.specs.Form.{is_agent}
 use Rattle.fleet_plans.specs.Paths.{AreFollowed}
 
+-- whether the byte is a dash
 abbrev pub is_dash : ℕ → Bool
 is_dash b = b == 45
 
@@ -35,7 +36,7 @@ abbrev pub cells_led : ℕ → ℕ → ℕ → List (List ℕ) → Option (List 
 cells_led w h lead [] = Some []
 cells_led w h lead (part ∷ parts) = option_and_then (λ c. option_map (λ cs. c ∷ cs) (cells_led w h 62 parts)) (led_cell w h lead part)
 
--- without the arrow at the end
+-- the text without the arrow at its end
 abbrev pub without_arrow : List ℕ → List ℕ
 without_arrow text = if bytes_eq (drop (length text - 2) text) (codes "->") then take (length text - 2) text else text
 
@@ -47,6 +48,7 @@ path_of w h text = if slice_index text (length text - 1) == 41 then cells_led w 
 abbrev pub after_agent : List ℕ → Option (List ℕ)
 after_agent line = if is_agent line then Some (drop 6 line) else None
 
+-- the cells of a line, if the number before its colon is the robot's
 abbrev pub numbered_path : ℕ → ℕ → ℕ → Option (List ℕ × List ℕ) → Option (List ℕ)
 numbered_path w h robot None = None
 numbered_path w h robot (Some p) = if is_number robot (number_of p.0) then path_of w h (without_arrow p.1) else None

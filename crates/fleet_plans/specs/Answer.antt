@@ -37,17 +37,19 @@ IsNamed lines (fault.Lines line_fault.NoMemory) a = ⊥
 IsNamed lines (fault.Lines (line_fault.Line line)) a = a ≡ at_line lines line
 IsNamed lines (fault.Json f) a = (f ≢ told.NoMemory) × (a ≡ answer.Json f)
 
--- a plan was read, and is not valid
+-- whether a plan was read, and is not valid
 abbrev pub is_invalid : PlanAnswer → Bool
 is_invalid (answer.Invalid f) = true
 is_invalid a = false
 
 -- ---- a plan that is free of conflicts
 
+-- a valid plan, or the robot that does not do what is asked of it
 abbrev pub or_off_goal : PlanReport → Option GoalFault → PlanAnswer
 or_off_goal r None = answer.Valid r
 or_off_goal r (Some f) = answer.Goals r.steps f
 
+-- what the head says that is not so, or else the same
 abbrev pub or_unmet : PlanReport → Option HeadFault → Option GoalFault → PlanAnswer
 or_unmet r None goal = or_off_goal r goal
 or_unmet r (Some f) goal = answer.Head f
@@ -112,10 +114,12 @@ fault_text NoMemory = codes "no-memory"
 fault_text (Vertex i j) = codes "vertex " ++ decimal i ++ codes " " ++ decimal j
 fault_text (Swap i j) = codes "swap " ++ decimal i ++ codes " " ++ decimal j
 
+-- how many robots end on their goals; nothing where the plan names no goals
 abbrev pub goals_text : Option ℕ → List ℕ
 goals_text None = []
 goals_text (Some reached) = codes "on-goals " ++ decimal reached ++ codes "\n"
 
+-- a valid plan: its steps, robots, costs and goals
 abbrev pub report_text : PlanReport → List ℕ
 report_text r =
     codes "valid " ++ decimal r.steps ++ codes " " ++ decimal r.robots

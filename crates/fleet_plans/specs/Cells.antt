@@ -6,6 +6,7 @@ use Rattle.std.specs.Option.{option_map, option_and_then}
 use Rattle.std.specs.Str.{bytes_eq}
 use Rattle.fleet_map.specs.Text.{number_of, without_empty_last}
 
+-- whether the byte is a comma
 abbrev pub is_comma : ℕ → Bool
 is_comma b = b == 44
 
@@ -52,6 +53,7 @@ abbrev pub faced_in : ℕ → ℕ → List ℕ → List ℕ → List ℕ → Opt
 faced_in width height a b direction =
     if is_direction direction then option_and_then (λ x. option_map (λ y. cell_at width height x y) (coordinate b)) (column_in a) else None
 
+-- the cells of a list of parts, where each has a direction
 abbrev pub faced_cells : ℕ → ℕ → List (List ℕ) → Option (List ℕ)
 faced_cells width height [] = Some []
 faced_cells width height (part ∷ []) = None

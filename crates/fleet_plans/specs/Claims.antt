@@ -10,6 +10,7 @@ use Rattle.fleet_plans.specs.declared.claims.HeadFault.{HeadFault}
 use Rattle.fleet_plans.specs.declared.claims.HeadFault.TheVariants.{Unlike, Cut}
 use Rattle.fleet_plans.specs.declared.report.PlanReport.{PlanReport}
 
+-- the key of a head under which the figure stands
 abbrev pub key_text : HeadKey → List ℕ
 key_text Agents = codes "agents"
 key_text Makespan = codes "makespan"
@@ -40,6 +41,7 @@ abbrev pub exceeds : Option ℕ → ℕ → Bool
 exceeds None n = false
 exceeds (Some number) n = nat_lt n number
 
+-- whether another number is said than both the steps and the greatest cost
 abbrev pub is_unlike_makespan : Option ℕ → PlanReport → Bool
 is_unlike_makespan number r = differs number r.steps && differs number r.makespan
 

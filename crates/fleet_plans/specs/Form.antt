@@ -20,6 +20,7 @@ is_agent text = nat_le 6 (length text) && bytes_eq (take 6 text) (codes "Agent "
 abbrev pub is_header : List ℕ → Bool
 is_header line = bytes_eq line (codes "agent,time,row,column")
 
+-- whether the first of the lines is that of a table
 abbrev pub is_table : List (List ℕ) → Bool
 is_table [] = false
 is_table (line ∷ lines) = is_header line
@@ -32,6 +33,7 @@ begins_with word text = nat_le (length word) (length text) && bytes_eq (take (le
 abbrev pub is_schedule : List ℕ → Bool
 is_schedule text = begins_with (codes "statistics:") text || begins_with (codes "schedule:") text
 
+-- the form of a text, by its first bytes
 abbrev pub form_of : List ℕ → TextForm
 form_of text = if is_json text then Json else if is_bare text then Bare else if is_agent text then Agents else if is_table (lines_of text) then Table else if is_schedule text then Schedule else Headed
 
@@ -46,6 +48,7 @@ has_word word (b ∷ text) = begins_with word (b ∷ text) || has_word word text
 abbrev pub is_pair : List ℕ → Bool
 is_pair line = is_some (split_once 61 line) && not (slice_index line 0 == 35)
 
+-- whether the first of the lines is KEY=VALUE
 abbrev pub has_head : List (List ℕ) → Bool
 has_head [] = false
 has_head (line ∷ lines) = is_pair line
@@ -60,5 +63,6 @@ is_plan_by Table text = true
 is_plan_by Schedule text = true
 is_plan_by Headed text = has_head (lines_of text)
 
+-- whether a text is taken for a plan
 abbrev pub is_plan : List ℕ → Bool
 is_plan text = is_plan_by (form_of text) text

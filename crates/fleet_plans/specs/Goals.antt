@@ -29,6 +29,7 @@ pub data Asked : Type 0 where
   OwnGoals : Asked
   OfTrips : Trips → Asked
 
+-- what a demand of the program asks
 abbrev pub asked_by : Demand → Asked
 asked_by demand.Nothing = Nothing
 asked_by demand.OwnGoals = OwnGoals

@@ -6,6 +6,7 @@ use Rattle.fleet_plans.specs.declared.judging.PlanFault.{PlanFault}
 use Rattle.fleet_plans.specs.Valid.{place_at, AreStepsFree, IsPlanFault, HasCells}
 use Rattle.fleet_plans.specs.Costs.{AreCostsBy}
 
+-- what a judge of plans keeps
 pub record Judged : Type 0 where
   -- the map
   pub floor : Floor
@@ -34,6 +35,7 @@ pub record HasFailed (m : Floor) (places : List (List ℕ)) (f : PlanFault) : Ty
   pub first : IsPlanFault m places f.time f.fault
   pub cells : HasCells places f
 
+-- no placement is at fault so far, or this is the first fault
 abbrev pub IsSoFar : Floor → List (List ℕ) → List ℕ → List ℕ → List ℕ → Option PlanFault → Type 0
 IsSoFar m places first last costs None = HasPassed m places first last costs
 IsSoFar m places first last costs (Some f) = HasFailed m places f

@@ -9,6 +9,7 @@ use Rattle.fleet_plans.specs.declared.misspelt.KnownKey.{KnownKey}
 use Rattle.fleet_plans.specs.declared.misspelt.KnownKey.TheVariants.{Starts, Goals, Form, Agents, Makespan, SumOfCosts, Solution}
 use Rattle.fleet_plans.specs.declared.misspelt.Misspelt.{Misspelt}
 
+-- the key itself
 abbrev pub known_text : KnownKey → List ℕ
 known_text Starts = codes "starts"
 known_text Goals = codes "goals"
@@ -18,7 +19,7 @@ known_text Makespan = codes "makespan"
 known_text SumOfCosts = codes "soc"
 known_text Solution = codes "solution"
 
--- without an s at the end
+-- the word without an s at its end
 abbrev pub without_s : List ℕ → List ℕ
 without_s word = if (slice_index word (length word - 1) == 115) || (slice_index word (length word - 1) == 83) then take (length word - 1) word else word
 
@@ -38,10 +39,12 @@ like_of key =
     else if is_like Solution key then Some Solution
     else None
 
+-- the line of this number, where its key is like one
 abbrev pub like_at : ℕ → Option KnownKey → Option Misspelt
 like_at number None = None
 like_at number (Some key) = Some (record { line = number; key = key })
 
+-- the line of this number, where it has a key that is like one
 abbrev pub like_in : ℕ → Option (List ℕ × List ℕ) → Option Misspelt
 like_in number None = None
 like_in number (Some p) = like_at number (like_of p.0)
@@ -51,6 +54,6 @@ unfoldable pub misspelt_of : ℕ → List (List ℕ) → Option Misspelt
 misspelt_of number [] = None
 misspelt_of number (line ∷ lines) = if bytes_eq line (codes "solution=") then None else option_or (like_in number (split_once 61 line)) (misspelt_of (number + 1) lines)
 
--- as it is said
+-- what is said of such a line
 abbrev pub misspelt_text : Misspelt → List ℕ
 misspelt_text m = codes "line " ++ (decimal m.line ++ (codes " is ignored, its key is like " ++ known_text m.key))

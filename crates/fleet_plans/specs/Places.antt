@@ -26,9 +26,11 @@ abbrev pub covers : Option (List ℕ) → List ℕ → Bool
 covers None place = true
 covers (Some goals) place = length goals == length place
 
+-- whether the first placement is as the head says
 abbrev pub begins : Head → List ℕ → Bool
 begins head place = agrees head.starts place && covers head.goals place
 
+-- the placements with one more; the first one has to be as the head says
 abbrev pub with_place : Head → List (List ℕ) → List ℕ → Option (List (List ℕ))
 with_place head [] place = if begins head place then Some (place ∷ []) else None
 with_place head (first ∷ places) place = Some ((first ∷ places) ++ place ∷ [])

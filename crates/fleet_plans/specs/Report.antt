@@ -9,6 +9,7 @@ use Rattle.fleet_plans.specs.declared.report.PlanReport.{PlanReport}
 abbrev pub goals_reached : List ℕ → List ℕ → ℕ
 goals_reached goals last = count_by (λ p. p.0 == p.1) (zip goals last)
 
+-- the figures of a valid plan with these placements, and with these goals if it names any
 pub record IsReportOf (goals : Option (List ℕ)) (places : List (List ℕ)) (report : PlanReport) : Type 0 where
   pub steps : length places ≡ report.steps + 1
   pub robots : report.robots ≡ length (place_at places 0)

@@ -24,6 +24,7 @@ use Rattle.fleet_plans.specs.Told.{key_text, or_fault, if_told, IsJson}
 abbrev pub is_mark : ℕ → Bool
 is_mark b = not (b == 32) && not (b == 9) && not (b == 10) && not (b == 13)
 
+-- whether there is such a place, and a brace is there
 abbrev pub is_brace_at : List ℕ → Option ℕ → Bool
 is_brace_at text None = false
 is_brace_at text (Some k) = slice_index text k == 123
@@ -34,6 +35,7 @@ is_json text = is_brace_at text (position is_mark text)
 
 -- ---- starts
 
+-- a number below 2^64
 abbrev pub long_in : Data → Option ℕ
 long_in d = option_and_then as_u64 (as_number d)
 
@@ -54,6 +56,7 @@ unfoldable pub starts_of : ℕ → ℕ → List ℕ → Items → Result (List �
 starts_of w h cells no_items = Ok cells
 starts_of w h cells (item d ds) = if_told (or_fault (Item Start (length cells)) (with_start w h cells d)) (λ more. starts_of w h more ds)
 
+-- the robots' cells under `start`
 abbrev pub starts_in : ℕ → ℕ → Data → Result (List ℕ) RunnersFault
 starts_in w h d = if_told (or_fault (Key Start) (option_and_then as_array (get (codes "start") d))) (starts_of w h [])
 
@@ -69,6 +72,7 @@ letter_in b =
     else if b == 87 then Some 119
     else None
 
+-- the letter of a part that is one letter
 abbrev pub step_in : List ℕ → Option ℕ
 step_in part = if length part == 1 then letter_in (slice_index part 0) else None
 
@@ -81,6 +85,7 @@ track_of letters (part ∷ parts) = option_and_then (λ letter. track_of (letter
 abbrev pub path_from : List ℕ → Option (List ℕ)
 path_from text = if nat_le (length text) MOST_PLAN_BYTES then track_of [] (parts_of text) else None
 
+-- the letters of a path that a value tells
 abbrev pub path_in : Data → Option (List ℕ)
 path_in d = option_and_then path_from (as_str d)
 
@@ -92,6 +97,7 @@ paths_of key robots tracks (item d ds) =
     then if_told (or_fault (Item key (length tracks)) (path_in d)) (λ track. paths_of key robots (tracks ++ track ∷ []) ds)
     else Err (Key key)
 
+-- the paths of n robots, which stand under this key
 abbrev pub paths_in : RunnersKey → ℕ → Data → Result (List (List ℕ)) RunnersFault
 paths_in key robots d = if_told (or_fault (Key key) (option_and_then as_array (get (key_text key) d))) (paths_of key robots [])
 
@@ -107,6 +113,7 @@ abbrev pub turns_in : Option Data → Option Bool
 turns_in None = Some false
 turns_in (Some d) = turns_named (as_str d)
 
+-- whether there is a number, and it is that of the robots
 abbrev pub says_count : ℕ → Option ℕ → Bool
 says_count robots None = false
 says_count robots (Some n) = n == robots
@@ -116,10 +123,11 @@ abbrev pub has_size : ℕ → Option Data → Bool
 has_size robots None = true
 has_size robots (Some d) = says_count robots (long_in d)
 
+-- a plan of moves without goals, of robots that begin on these cells
 abbrev pub walked_from : List ℕ → List (List ℕ) → Source
 walked_from starts tracks = record { goals = None; solution = Walked starts tracks }
 
--- as many robots as starts, where a number is named
+-- a plan of moves, if it has as many robots as starts, where a number is named
 abbrev pub sized : List ℕ → Data → Result (List (List ℕ)) RunnersFault → Result Source RunnersFault
 sized starts d told = if has_size (length starts) (get (codes "teamSize") d) then if_told told (λ tracks. Ok (walked_from starts tracks)) else Err (Key TeamSize)
 
@@ -133,7 +141,7 @@ abbrev pub tracks_by : RunnersKey → Bool → ℕ → List Dir → Data → Res
 tracks_by key false robots dirs d = paths_in key robots d
 tracks_by key true robots dirs d = turned_paths key dirs d
 
--- by whether robots turn
+-- the plan that a value is, by whether robots turn
 abbrev pub runners_by : RunnersKey → ℕ → ℕ → Data → Option Bool → Result Source RunnersFault
 runners_by key w h d None = Err (Key ActionModel)
 runners_by key w h d (Some turns) = if_told (starts_in w h d) (λ starts. if_told (dirs_by turns d) (λ dirs. sized starts d (tracks_by key turns (length starts) dirs d)))

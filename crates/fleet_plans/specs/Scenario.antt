@@ -21,9 +21,11 @@ cell_of w h x y = option_and_then (λ column. option_map (λ row. cell_at w h co
 abbrev pub is_of_map : ℕ → ℕ → List ℕ → Bool
 is_of_map w h line = is_number w (number_of (word_at line 2)) && is_number h (number_of (word_at line 3))
 
+-- the cell at which the robot of a line starts
 abbrev pub start_in : ℕ → ℕ → List ℕ → Option ℕ
 start_in w h line = cell_of w h (word_at line 4) (word_at line 5)
 
+-- the cell to which the robot of a line goes
 abbrev pub goal_in : ℕ → ℕ → List ℕ → Option ℕ
 goal_in w h line = cell_of w h (word_at line 6) (word_at line 7)
 
@@ -39,17 +41,20 @@ pub record Trips : Type 0 where
   pub starts : List ℕ
   pub goals : List ℕ
 
+-- the starts and goals with those of one more robot
 abbrev pub with_trip : Trips → Trip → Trips
 with_trip trips trip = record { starts = trips.starts ++ trip.start ∷ []; goals = trips.goals ++ trip.goal ∷ [] }
 
--- those of the lines numbered from this one on, after these; or the number of the first line that says none
+-- the starts and goals of the lines numbered from this one on, after these; or the number of the first line without
 unfoldable pub trips_of : ℕ → ℕ → Trips → ℕ → List (List ℕ) → Result Trips ℕ
 trips_of w h trips number [] = Ok trips
 trips_of w h trips number (line ∷ lines) = and_then (or_line number (trip_in w h line)) (λ trip. trips_of w h (with_trip trips trip) (number + 1) lines)
 
+-- whether the line is that of the version
 abbrev pub is_version : List ℕ → Bool
 is_version line = bytes_eq (word_at line 0) (codes "version")
 
+-- the starts and goals of a scenario's lines, or the number of the first line that may not stand
 abbrev pub scenario_of : ℕ → ℕ → List (List ℕ) → Result Trips ℕ
 scenario_of w h [] = Err 1
 scenario_of w h (line ∷ lines) = if is_version line then trips_of w h (record { starts = []; goals = [] }) 2 lines else Err 1

@@ -47,23 +47,25 @@ pub record Draft : Type 0 where
   pub trails : Trails
   pub part : Part
 
+-- the paths that were read, and what the last line was
 abbrev pub drafted : Trails → Part → Draft
 drafted t part = record { trails = t; part = part }
 
--- with the next robot, which has no cell yet
+-- the paths with the next robot, which has no cell yet
 abbrev pub with_name : Trails → List ℕ → Option Draft
 with_name t line =
     if names (length t.whole + 1) line && nat_lt (length t.whole) (MOST_PLAN_BYTES - 1) then Some (drafted (record { whole = t.whole ++ t.path ∷ []; path = [] }) Name) else None
 
--- with this cell of the last robot
+-- the paths with this cell of the last robot
 abbrev pub with_time : Trails → ℕ → List ℕ → Option Draft
 with_time t cell line = if is_at (length t.path) line then option_map (λ more. drafted more Cell) (with_cell t cell) else None
 
--- with the column of one more cell, or the next robot
+-- the paths with the column of one more cell, or with the next robot
 abbrev pub with_next : Trails → List ℕ → Option ℕ → Option Draft
 with_next t line (Some column) = Some (drafted t (Column column))
 with_next t line None = with_name t line
 
+-- the paths with one more line, by what the last one was; `None` where it may not stand
 abbrev pub with_scheduled : ℕ → ℕ → Trails → Part → List ℕ → Option Draft
 with_scheduled w h t Begin line = if names 0 line then Some (drafted t Name) else None
 with_scheduled w h t Name line = option_map (λ column. drafted t (Column column)) (column_of line)
@@ -87,7 +89,7 @@ unfoldable pub robots_of : ℕ → ℕ → Trails → Part → ℕ → List (Lis
 robots_of w h t part number [] = if is_whole part then Ok t else Err number
 robots_of w h t part number (line ∷ lines) = and_then (or_line number (with_scheduled w h t part line)) (λ d. robots_of w h d.trails d.part (number + 1) lines)
 
--- those of the lines after `schedule:`
+-- the paths of the lines after `schedule:`
 unfoldable pub schedule_of : ℕ → ℕ → ℕ → List (List ℕ) → Result Trails ℕ
 schedule_of w h number [] = Err number
 schedule_of w h number (line ∷ lines) = if bytes_eq (word_at line 0) (codes "schedule:") then robots_of w h no_trails Begin (number + 1) lines else schedule_of w h (number + 1) lines

@@ -11,12 +11,15 @@ use Rattle.fleet_plans.specs.Head as spec
 use Rattle.fleet_plans.specs.declared.scenario.Scenario.{Scenario}
 use Rattle.fleet_plans.specs.Scenario.{Trips}
 
+-- a head of the program, without its memory
 abbrev pub shown : {A : Type 0} → Head A → spec.Head
 shown d = record { starts = d.starts; goals = d.goals; is_moves = d.is_moves }
 
+-- a head of the program with its number and the lines after it, without its memory
 abbrev pub opened : {A : Type 0} → Opened A → spec.Opened
 opened x = record { head = shown x.head; number = x.number; lines = lines_of x.rest.now }
 
+-- the starts and goals of a scenario of the program, without its memory
 abbrev pub trips : Scenario → Trips
 trips s = record { starts = s.starts; goals = s.goals }
 
@@ -28,6 +31,7 @@ texts lines = map (λ x. x.now) lines
 abbrev pub goals_in : Option (Bor (List ℕ)) → Option (List ℕ)
 goals_in goals = option_map (λ x. x.now) goals
 
+-- reading gives this line; out of memory says nothing of what reading gives
 abbrev pub FailsAt : {Y : Type 0} → PlanTextFault → Result Y ℕ → Type 0
 FailsAt NoMemory read = Unit {0}
 FailsAt (Line line) read = read ≡ Err line

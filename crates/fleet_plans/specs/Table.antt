@@ -19,21 +19,26 @@ pub record Fields : Type 0 where
   pub row : List ℕ
   pub column : List ℕ
 
+-- the words of a line of the program, without where they lie in memory
 abbrev pub fields : Lent → Fields
 fields f = record { agent = f.agent.now; time = f.time.now; row = f.row.now; column = f.column.now }
 
+-- the words of a line with this agent and time, if a row and a column follow
 abbrev pub with_time : List ℕ → List ℕ → Option (List ℕ × List ℕ) → Option Fields
 with_time agent time None = None
 with_time agent time (Some r) = Some (record { agent = agent; time = time; row = r.0; column = r.1 })
 
+-- the words of a line with this agent, if a time, a row and a column follow
 abbrev pub with_agent : List ℕ → Option (List ℕ × List ℕ) → Option Fields
 with_agent agent None = None
 with_agent agent (Some q) = with_time agent q.0 (split_once 44 q.1)
 
+-- the words of a line, by what stands before its first comma and after it
 abbrev pub fields_by : Option (List ℕ × List ℕ) → Option Fields
 fields_by None = None
 fields_by (Some p) = with_agent p.0 (split_once 44 p.1)
 
+-- the words of a line; `None` where it has fewer than three commas
 abbrev pub fields_of : List ℕ → Option Fields
 fields_of line = fields_by (split_once 44 line)
 
@@ -42,9 +47,11 @@ pub record Trails : Type 0 where
   pub whole : List (List ℕ)
   pub path : List ℕ
 
+-- the paths that the program read, without its memory
 abbrev pub trails : Owned → Trails
 trails t = record { whole = t.whole.items; path = t.path.items }
 
+-- the paths before the first line
 abbrev pub no_trails : Trails
 no_trails = record { whole = []; path = [] }
 
@@ -69,10 +76,11 @@ with_numbers t agent time cell =
     else if is_number (length t.whole + 1) agent && is_number 0 time then with_robot t cell
     else None
 
+-- the paths with the cell that the words of a line say
 abbrev pub with_fields : ℕ → ℕ → Trails → Fields → Option Trails
 with_fields w h t f = option_and_then (with_numbers t (number_of f.agent) (number_of f.time)) (cell_of w h f.column f.row)
 
--- with one more line
+-- the paths with one more line
 abbrev pub with_row : ℕ → ℕ → Trails → List ℕ → Option Trails
 with_row w h t line = option_and_then (with_fields w h t) (fields_of line)
 
@@ -81,6 +89,7 @@ unfoldable pub trails_of : ℕ → ℕ → Trails → ℕ → List (List ℕ) �
 trails_of w h t number [] = if nat_lt 0 (length t.path) then Ok t else Err number
 trails_of w h t number (line ∷ lines) = and_then (or_line number (with_row w h t line)) (λ more. trails_of w h more (number + 1) lines)
 
+-- the paths of a table's lines, or the number of the first line that may not stand
 abbrev pub table_of : ℕ → ℕ → List (List ℕ) → Result Trails ℕ
 table_of w h [] = Err 1
 table_of w h (line ∷ lines) = if is_header line then trails_of w h no_trails 2 lines else Err 1

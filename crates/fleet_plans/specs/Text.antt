@@ -10,13 +10,16 @@ pub data Solution : Type 0 where
   Placed : List (List ℕ) → Solution
   Walked : List ℕ → List (List ℕ) → Solution
 
+-- what a text is: the robots' goals, `None` where it names none, and its solution
 pub record Source : Type 0 where
   pub goals : Option (List ℕ)
   pub solution : Solution
 
+-- a plan of placements, with the goals of its head
 abbrev pub placed : Head → List (List ℕ) → Source
 placed head places = record { goals = head.goals; solution = Placed places }
 
+-- a plan of moves from these starts, with the goals of its head
 abbrev pub walked : Head → List ℕ → List (List ℕ) → Source
 walked head starts tracks = record { goals = head.goals; solution = Walked starts tracks }
 
@@ -26,9 +29,11 @@ from_starts head number lines None = Err number
 from_starts head number lines (Some starts) =
     if covers head.goals starts then and_then (tracks_of (length starts) [] number lines) (λ tracks. Ok (walked head starts tracks)) else Err number
 
+-- a head, with the number and the lines after it
 abbrev pub after : Head → ℕ → List (List ℕ) → Opened
 after head number lines = record { head = head; number = number; lines = lines }
 
+-- what the lines after a head are, or the number of the first line that may not stand
 abbrev pub source_after : ℕ → ℕ → Opened → Result Source ℕ
 source_after w h o =
     if unwrap_or o.head.is_moves false

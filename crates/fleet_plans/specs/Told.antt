@@ -7,6 +7,7 @@ use Rattle.fleet_plans.specs.declared.runners.fault.RunnersKey.TheVariants.{Acti
 use Rattle.fleet_plans.specs.declared.runners.fault.RunnersFault.{RunnersFault}
 use Rattle.fleet_plans.specs.declared.runners.fault.RunnersFault.TheVariants.{NotJson, Key, Item, NoMemory}
 
+-- the key itself
 abbrev pub key_text : RunnersKey → List ℕ
 key_text ActionModel = codes "actionModel"
 key_text Start = codes "start"
@@ -21,10 +22,12 @@ told_text (Key key) = key_text key
 told_text (Item key robot) = key_text key ++ codes " " ++ decimal robot
 told_text NoMemory = codes "no-memory"
 
+-- the value, or this fault where there is none
 abbrev pub or_fault : {A : Type 0} → RunnersFault → Option A → Result A RunnersFault
 or_fault fault None = Err fault
 or_fault fault (Some x) = Ok x
 
+-- the next step on what the first one gives, or the fault of the first
 abbrev pub if_told : {A B : Type 0} → Result A RunnersFault → (A → Result B RunnersFault) → Result B RunnersFault
 if_told (Ok x) f = f x
 if_told (Err fault) f = Err fault

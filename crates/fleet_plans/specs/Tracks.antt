@@ -5,6 +5,7 @@ use Rattle.std.specs.List.{list_all}
 use Rattle.fleet_plans.specs.Head.{or_line, and_then}
 use Rattle.fleet_plans.specs.Valid.{place_at}
 
+-- whether the byte is the letter of a move
 abbrev pub is_move : ℕ → Bool
 is_move b = (b == 117) || (b == 100) || (b == 108) || (b == 114) || (b == 119)
 

@@ -22,12 +22,14 @@ letter_of East = 114
 letter_of South = 100
 letter_of West = 108
 
+-- the direction after a turn to the right
 abbrev pub right_of : Dir → Dir
 right_of North = East
 right_of East = South
 right_of South = West
 right_of West = North
 
+-- the direction after a turn to the left
 abbrev pub left_of : Dir → Dir
 left_of North = West
 left_of East = North
@@ -43,6 +45,7 @@ act dir b =
     else if b == 87 then Some (119, dir)
     else None
 
+-- the letter and the direction of a part that is one action
 abbrev pub act_in : Dir → List ℕ → Option (ℕ × Dir)
 act_in dir part = if length part == 1 then act dir (slice_index part 0) else None
 
@@ -55,11 +58,13 @@ turned dir (part ∷ parts) = option_and_then (λ a. option_map (λ letters. a.0
 abbrev pub turned_text : Dir → List ℕ → Option (List ℕ)
 turned_text dir text = if nat_le (length text) MOST_PLAN_BYTES then turned dir (parts_of text) else None
 
+-- the letters of the actions of a path that a value tells
 abbrev pub turned_in : Dir → Data → Option (List ℕ)
 turned_in dir d = option_and_then (turned_text dir) (as_str d)
 
 -- ---- directions
 
+-- the direction of this name: E, S, W or N
 abbrev pub dir_named : List ℕ → Option Dir
 dir_named name =
     if bytes_eq name (codes "E") then Some East
@@ -81,6 +86,7 @@ unfoldable pub dirs_of : List Dir → Items → Result (List Dir) RunnersFault
 dirs_of dirs no_items = Ok dirs
 dirs_of dirs (item d ds) = if_told (or_fault (Item Start (length dirs)) (with_dir dirs d)) (λ more. dirs_of more ds)
 
+-- the robots' directions under `start`
 abbrev pub dirs_in : Data → Result (List Dir) RunnersFault
 dirs_in d = if_told (or_fault (Key Start) (option_and_then as_array (get (codes "start") d))) (dirs_of [])
 
@@ -96,5 +102,6 @@ unfoldable pub turned_of : RunnersKey → List Dir → List (List ℕ) → Items
 turned_of key dirs tracks no_items = if length tracks == length dirs then Ok tracks else Err (Key key)
 turned_of key dirs tracks (item d ds) = if_told (told_track key (length tracks) d (slice_get dirs (length tracks))) (λ track. turned_of key dirs (tracks ++ track ∷ []) ds)
 
+-- the paths of robots that begin in these directions, which stand under this key
 abbrev pub turned_paths : RunnersKey → List Dir → Data → Result (List (List ℕ)) RunnersFault
 turned_paths key dirs d = if_told (or_fault (Key key) (option_and_then as_array (get (key_text key) d))) (turned_of key dirs [])

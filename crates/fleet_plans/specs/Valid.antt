@@ -54,7 +54,7 @@ pub record HasCells (places : List (List ℕ)) (f : PlanFault) : Type 0 where
   pub before : f.from ≡ slice_index (place_at places (f.time - 1)) (robot_at_fault f.fault)
   pub there : f.to ≡ slice_index (place_at places f.time) (robot_at_fault f.fault)
 
--- as many times and robots as the longest text can have
+-- there are not more times and robots than the longest text can have
 pub record HasSize (places : List (List ℕ)) : Type 0 where
   pub some : 1 ≤ length places
   pub times : length places < 2 ^ 32

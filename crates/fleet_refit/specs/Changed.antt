@@ -22,13 +22,15 @@ use Rattle.fleet_refit.specs.Site.{SiteView, moving, seat_of, with_map, with_sea
 abbrev pub newcomer : {A : Type 0} → ℕ → StampLaw → StampLaw → RobotState A
 newcomer cell arrivals farewells = record { cell = cell; shut = false; wait = None; errands = []; arrival_law = arrivals; farewell_law = farewells }
 
--- the robot without errands, on another cell, and with other errands
+-- the robot without errands
 abbrev pub emptied : {A : Type 0} → RobotState A → RobotState A
 emptied x = record { cell = x.cell; shut = x.shut; wait = None; errands = []; arrival_law = x.arrival_law; farewell_law = x.farewell_law }
 
+-- the robot on another cell
 abbrev pub on_cell : {A : Type 0} → ℕ → RobotState A → RobotState A
 on_cell cell x = record { cell = cell; shut = x.shut; wait = x.wait; errands = x.errands; arrival_law = x.arrival_law; farewell_law = x.farewell_law }
 
+-- the robot with other errands; it waits anew where its front is another
 abbrev pub with_errands : {A : Type 0} → List Errand → RobotState A → RobotState A
 with_errands errands x = record { cell = x.cell; shut = x.shut; wait = cut_wait x.errands errands x.wait; errands = errands; arrival_law = x.arrival_law; farewell_law = x.farewell_law }
 
@@ -49,15 +51,15 @@ pub record Replaces {A : Type 0} (Becomes : Seat A → Seat A → Type 0) (s : S
   pub becomes : Becomes old new
   pub is : t ≡ with_seats s (slice_set s.seats robot new)
 
--- it takes part in another way
+-- the robot takes part in another way
 abbrev pub Stands : {A : Type 0} → Standing → Seat A → Seat A → Type 0
 Stands standing x y = y ≡ seat_of standing x.robot
 
--- it is taken away, and its errands are dropped
+-- the robot is taken away, and its errands are dropped
 abbrev pub Leaves : {A : Type 0} → ℕ → List Dropped → Seat A → Seat A → Type 0
 Leaves robot dropped x y = (y ≡ seat_of standing.Gone (emptied x.robot)) × (dropped ≡ map (dropped_of robot) x.robot.errands)
 
--- it was carried to the cell
+-- the robot was carried to the cell
 abbrev pub ComesTo : {A : Type 0} → ℕ → Seat A → Seat A → Type 0
 ComesTo cell x y = y ≡ seat_of x.standing (on_cell cell x.robot)
 

@@ -21,6 +21,7 @@ stands_on cell x = not (is_gone x.standing) && (x.robot.cell == cell)
 abbrev pub has : {A : Type 0} → ℕ → ℕ → Seat A → Bool
 has client number x = list_any (is_of client number) x.robot.errands
 
+-- this fault if the test passes, or else what more there is
 abbrev pub fault_if : Bool → ChangeFault → Option ChangeFault → Option ChangeFault
 fault_if b f more = if b then Some f else more
 
@@ -40,26 +41,30 @@ floor_fault s mine cell =
 abbrev pub wall_fault : {A : Type 0} → SiteView A → ℕ → Option ChangeFault
 wall_fault s cell = fault_if (not (nat_lt cell (length s.map.letters))) fault.NoCell (fault_if (is_floor s.map cell) fault.IsFloor None)
 
--- why there is no such robot, or why it cannot be held, or let go
+-- why the robot is no longer there
 abbrev pub standing_fault : Standing → Option ChangeFault
 standing_fault standing.Moving = None
 standing_fault standing.Held = None
 standing_fault standing.Gone = Some fault.NoRobot
 
+-- why the robot cannot be held
 abbrev pub hold_fault : Standing → Option ChangeFault
 hold_fault standing.Moving = None
 hold_fault standing.Held = Some fault.IsHeld
 hold_fault standing.Gone = Some fault.NoRobot
 
+-- why the robot cannot be let go
 abbrev pub free_fault : Standing → Option ChangeFault
 free_fault standing.Moving = Some fault.NotHeld
 free_fault standing.Held = None
 free_fault standing.Gone = Some fault.NoRobot
 
+-- why this is so of the robot of a seat, or there is none
 abbrev pub seat_fault : {A : Type 0} → (Standing → Option ChangeFault) → Option (Seat A) → Option ChangeFault
 seat_fault of None = Some fault.NoRobot
 seat_fault of (Some x) = of x.standing
 
+-- why this is so of the robot of that number, or there is none
 abbrev pub robot_fault : {A : Type 0} → (Standing → Option ChangeFault) → SiteView A → ℕ → Option ChangeFault
 robot_fault of s robot = seat_fault of (slice_get s.seats robot)
 
@@ -87,6 +92,7 @@ abbrev pub errand_fault : Option ℕ → Option ChangeFault
 errand_fault None = Some fault.NoErrand
 errand_fault (Some robot) = None
 
+-- why the client's errand of that number is not dropped: no robot has it
 abbrev pub cancel_fault : {A : Type 0} → SiteView A → ℕ → ℕ → Option ChangeFault
 cancel_fault s client number = errand_fault (position (has client number) s.seats)
 

@@ -14,6 +14,7 @@ abbrev pub numbers_from : {A : Type 0} → ℕ → List (Seat A) → List ℕ
 numbers_from first [] = []
 numbers_from first (x ∷ xs) = if is_moving x.standing then first ∷ numbers_from (first + 1) xs else numbers_from (first + 1) xs
 
+-- the numbers of the robots that move, in order
 abbrev pub moving_numbers : {A : Type 0} → List (Seat A) → List ℕ
 moving_numbers seats = numbers_from 0 seats
 

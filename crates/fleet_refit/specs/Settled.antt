@@ -21,6 +21,7 @@ SettlesAs m robot standing.Moving x y dropped = IsCut (Reaches m x.robot.cell) r
 SettlesAs m robot standing.Held x y dropped = (y ≡ x) × (dropped ≡ [])
 SettlesAs m robot standing.Gone x y dropped = (y ≡ x) × (dropped ≡ [])
 
+-- the robot of this number keeps such errands, by how it takes part; the others are dropped
 abbrev pub IsSettled : {A : Type 0} → Floor → ℕ → Seat A → Seat A → List Dropped → Type 0
 IsSettled m robot x y dropped = SettlesAs m robot x.standing x y dropped
 

@@ -32,6 +32,6 @@ pub record HasNoRoom {A : Type 0} (m : Floor) (h : History A) : Type 0 where
   pub within : apart ≤ reach m
   pub full : HaveRoom (waits h) far apart → ⊥
 
--- so it is on a map without bridges
+-- the map has no bridge, and the waits leave no room for these walks
 abbrev pub WaitTooLong : {A : Type 0} → Floor → History A → Type 0
 WaitTooLong m h = IsBridgeless (IsNeighbour m) × HasNoRoom m h

@@ -21,6 +21,7 @@ Line = List (List ℕ)
 abbrev pub line_in : List ℕ → Line
 line_in bytes = if is_comment bytes then [] else words_of bytes
 
+-- the lines of a text, as their words
 abbrev pub lines_in : List ℕ → List Line
 lines_in bytes = map line_in (lines_of bytes)
 
@@ -66,6 +67,7 @@ pub record AreInForm (lines : List Line) : Type 0 where
 
 -- ---- what lines in form say
 
+-- what `read` makes of the words after this first one; `None` where the line begins with another, or has no words
 abbrev pub says : {A : Type 0} → List ℕ → (List (List ℕ) → Option A) → Line → Option A
 says key read [] = None
 says key read (first ∷ words) = if bytes_eq first key then read words else None
@@ -75,6 +77,7 @@ abbrev pub said : {A : Type 0} → List ℕ → (List (List ℕ) → Option A) �
 said key read [] = None
 said key read (line ∷ lines) = option_or (said key read lines) (says key read line)
 
+-- the limits that the lines give, `None` for each that no line gives
 abbrev pub limits_said : List Line → GivenLimits
 limits_said lines = record {
   lane = said (codes "lane") (one_in most32) lines;
@@ -88,6 +91,7 @@ limits_said lines = record {
   chapters = said (codes "chapters") (one_in most32) lines;
 }
 
+-- what `see` makes of a line's event, as often as it is done; nothing where the line has none
 abbrev pub times_of : {A : Type 0} → (Repeated → A) → Option Repeated → List A
 times_of see None = []
 times_of see (Some r) = replicate r.times (see r)
@@ -115,6 +119,7 @@ pub record IsScript (lines : List Line) (plan : Plan) : Type 0 where
 
 -- ---- lines that are no script
 
+-- why the lines are no script, by the number of a line from 1
 pub data IsFirstFault (lines : List Line) : ScriptFault → Type 0 where
   -- the lines before this one are in form, and with it they are not
   line : (before : List Line) (line : Line) (behind : List Line) → lines ≡ before ++ line ∷ behind → AreInForm before → (AreInForm (before ++ line ∷ []) → ⊥) → IsFirstFault lines (script_fault.Line (length before + 1))

@@ -3,6 +3,7 @@ use Rattle.std.specs.Prelude.{ℕ, ◌-◌, ◌^◌, List, [], ◌∷◌, length
 use Rattle.std.specs.Option.{option_map, option_and_then}
 use Rattle.fleet_map.specs.Text.{number_of}
 
+-- the number, where it is at most `most`
 abbrev pub at_most : ℕ → ℕ → Option ℕ
 at_most most n = if nat_le n most then Some n else None
 
@@ -10,10 +11,11 @@ at_most most n = if nat_le n most then Some n else None
 abbrev pub number_in : ℕ → List ℕ → Option ℕ
 number_in most word = if nat_le (length word) 20 then option_and_then (at_most most) (number_of word) else None
 
--- the greatest numbers of 32 and of 64 bits
+-- the greatest number of 32 bits
 abbrev pub most32 : ℕ
 most32 = 2 ^ 32 - 1
 
+-- the greatest number of 64 bits
 abbrev pub most64 : ℕ
 most64 = 2 ^ 64 - 1
 

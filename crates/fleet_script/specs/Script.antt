@@ -21,6 +21,7 @@ pub record Repeated : Type 0 where
   pub event : Event
   pub times : ℕ
 
+-- an event, once
 abbrev pub once_only : Event → Repeated
 once_only event = record { event = event; times = 1 }
 
@@ -97,10 +98,13 @@ turns_in words = option_and_then (λ n. if nat_le 1 n then Some n else None) (on
 
 -- ---- the script so far
 
+-- what the lines so far said, `None` for each thing that no line said
 pub record Draft : Type 0 where
   pub starts : Option (List ℕ)
   pub clients : Option ℕ
+  -- whether the southern closures rank the cells
   pub south : Option Bool
+  -- of each ticker, in a serve
   pub turns : Option ℕ
   pub limits : GivenLimits
   pub events : List Event
@@ -121,9 +125,11 @@ with_header_within most d key words =
     else if bytes_eq key (codes "turns") then option_map (λ n. record d { turns = Some n }) (if_new d.turns (turns_in words))
     else with_limit_line d (limit_named key) words
 
+-- the script with one more header line, where a fleet has at most 16 robots
 abbrev pub with_header : Draft → List ℕ → List (List ℕ) → Option Draft
 with_header d key words = with_header_within 16 d key words
 
+-- whether there are no events
 abbrev pub no_events : List Event → Bool
 no_events [] = true
 no_events (event ∷ events) = false
@@ -136,6 +142,7 @@ with_events d number more = record d { events = d.events ++ replicate more.times
 abbrev pub with_other : Draft → List ℕ → List (List ℕ) → Option Draft
 with_other d key words = if no_events d.events then with_header d key words else None
 
+-- the script with one more line of words, by its events if it is an event line; `None` where it may not stand
 abbrev pub with_line_of : Draft → ℕ → List ℕ → List (List ℕ) → Option Repeated → Option Draft
 with_line_of d number key words (Some more) = Some (with_events d number more)
 with_line_of d number key words None = with_other d key words
@@ -150,14 +157,17 @@ abbrev pub is_comment : List ℕ → Bool
 is_comment [] = false
 is_comment (first ∷ rest) = first == 35
 
+-- the script with the line of this number; `None` where it may not stand
 abbrev pub with_line : Draft → ℕ → List ℕ → Option Draft
 with_line d number line = if is_comment line then Some d else with_words d number (words_of line)
 
 -- ---- the whole script, or the number of the first line that may not stand
 
+-- no line gives a limit
 abbrev pub no_limits : GivenLimits
 no_limits = record { lane = None; outlet = None; queue = None; mailbox = None; life = None; orders = None; clock = None; chapter = None; chapters = None }
 
+-- the script before its first line
 abbrev pub blank_draft : Draft
 blank_draft = record { starts = None; clients = None; south = None; turns = None; limits = no_limits; events = []; lines = [] }
 
@@ -199,15 +209,19 @@ pub record Plan : Type 0 where
   -- of each ticker, in a serve
   pub turns : ℕ
   pub events : List Event
+  -- the line of each event
   pub lines : List ℕ
 
+-- the script of these lines, with these start cells and a default for all else that they do not say
 abbrev pub plan_from : Draft → List ℕ → Plan
 plan_from d starts = record { starts = starts; clients = unwrap_or d.clients 1; limits = limits_of d.limits; south = unwrap_or d.south false; turns = unwrap_or d.turns 16; events = d.events; lines = d.lines }
 
+-- the value, or the number of the line where there is none
 abbrev pub or_line : {A : Type 0} → ℕ → Option A → Result A ℕ
 or_line number None = Err number
 or_line number (Some x) = Ok x
 
+-- the next step on what the first one gives, or the line at which the first one failed
 abbrev pub and_then : {A B : Type 0} → Result A ℕ → (A → Result B ℕ) → Result B ℕ
 and_then (Ok x) f = f x
 and_then (Err line) f = Err line
@@ -217,5 +231,6 @@ unfoldable pub draft_of : Draft → ℕ → List (List ℕ) → Result Plan ℕ
 draft_of d number [] = or_line number (option_map (plan_from d) d.starts)
 draft_of d number (line ∷ lines) = and_then (or_line number (with_line d number line)) (λ more. draft_of more (number + 1) lines)
 
+-- the script of a text, or the number of its first line that may not stand
 abbrev pub script_of : List ℕ → Result Plan ℕ
 script_of bytes = draft_of blank_draft 1 (lines_of bytes)

@@ -15,9 +15,11 @@ use Rattle.fleet_script.specs.Event.{Said}
 use Rattle.fleet_script.specs.Event as said
 use Rattle.fleet_script.specs.Script as spec
 
+-- a repeat of the program, as an event and how often
 abbrev pub repeated : Repeat → spec.Repeated
 repeated r = record { event = r.event; times = r.times }
 
+-- what an event line of the program said
 abbrev pub said_on : EventLine → Said
 said_on Nothing = said.nothing
 said_on (Events more) = said.events (repeated more)
@@ -27,6 +29,7 @@ said_on Other = said.other
 abbrev pub headed : {A : Type 0} → Head A → List Event → List ℕ → spec.Draft
 headed h events lines = record { starts = option_map (λ v. v.items) h.starts; clients = h.clients; south = h.south; turns = h.turns; limits = h.limits; events = events; lines = lines }
 
+-- a draft of the program, without its memory: each event as often as it is repeated
 abbrev pub shown : {A : Type 0} → Draft A → spec.Draft
 shown d = headed d.head (unrolled d.runs.items) (numbered d.runs.items)
 
@@ -35,9 +38,11 @@ abbrev pub IsTaken : Bool → Option spec.Draft → spec.Draft → spec.Draft �
 IsTaken true more old new = more ≡ Some new
 IsTaken false more old new = (more ≡ None) × (new ≡ old)
 
+-- a script of the program, without its memory
 abbrev pub plan : {A : Type 0} → Script A → spec.Plan
 plan s = record { starts = s.starts.items; clients = s.clients; limits = s.limits; south = s.south; turns = s.turns; events = s.events.items; lines = s.lines.items }
 
+-- reading gives this line; out of memory says nothing of what reading gives
 abbrev pub FailsAt : {Y : Type 0} → ScriptFault → Result Y ℕ → Type 0
 FailsAt NoMemory read = Unit {0}
 FailsAt (Line line) read = read ≡ Err line

@@ -98,7 +98,7 @@ IsSum lane_full counts = lane_full ≡ min (sum_by (λ x. x.count) counts) (2 ^ 
 abbrev pub TakesPosted : {A : Type 0} → History A → List Event → ℕ → Type 0
 TakesPosted h events clients = (c : ℕ) → c < clients → IsSubsequence (orders h c) (posts c events)
 
--- they are all of them, up to its first Close
+-- the orders of each client's takes are all posts of its lines up to its first Close
 abbrev pub TakesAll : {A : Type 0} → History A → List Event → ℕ → Type 0
 TakesAll h events clients = (c : ℕ) → c < clients → orders h c ≡ until_close (posts c events)
 
@@ -126,6 +126,7 @@ pub record IsNew {A : Type 0} (client : ClientView A) (most : ℕ) : Type 0 wher
   pub sent : client.sent ≡ []
   pub orders : client.orders ≡ most
 
+-- no client has sent anything, and each may send this many orders
 abbrev pub AreNew : {A : Type 0} → ℕ → List (ClientView A) → Type 0
 AreNew {A} most cs = (k : ℕ) (x : ClientView A) → slice_get cs k ≡ Some x → IsNew x most
 
@@ -138,7 +139,7 @@ pub record HasRun {A : Type 0} (events : List Event) (most : ℕ) (client : Clie
   pub whole : full ≡ 0 → length events < most → client.sent ≡ until_close (posts client.number events)
   pub come : ComeTo most (posts client.number events) client.sent full
 
--- and this is that number, at most 2^32 - 1
+-- the client has run its lines, and this is how many posts met a full lane, at most 2^32 - 1
 pub record HasCounted {A : Type 0} (events : List Event) (most : ℕ) (client : ClientView A) (lane_full : ℕ) : Type 0 where
   pub full : ℕ
   pub run : HasRun events most client full

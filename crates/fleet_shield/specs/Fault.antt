@@ -32,12 +32,15 @@ pub record Fits (m : Floor) (order : List ℕ) (w : Wishes) (news : ℕ) (size :
   pub map : size.cells ≡ length m.letters
   pub lengths : HasLengths order w news size.robots
 
+-- the robot stands on a floor cell
 abbrev pub IsOnFloor : Floor → Wishes → ℕ → Type 0
 IsOnFloor m w robot = IsFloor m (cell_of w robot)
 
+-- the place of the order names a robot that there is
 abbrev pub IsKnown : List ℕ → ℕ → Type 0
 IsKnown order place = slice_index order place < length order
 
+-- each of the robot's preferences is its own cell or a neighbour of it
 abbrev pub AllNear : Floor → Wishes → ℕ → Type 0
 AllNear m w robot = (place : ℕ) → place < w.each → IsNear m w robot place
 

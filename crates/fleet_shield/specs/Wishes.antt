@@ -10,12 +10,15 @@ pub record Wishes : Type 0 where
   pub each : ℕ
   pub cells : List ℕ
 
+-- the wishes of robots on these cells with these preferences
 abbrev pub wishes : List ℕ → Preferences → Wishes
 wishes from p = record { from = from; each = p.each; cells = p.cells.now }
 
+-- how many robots there are
 abbrev pub robots : Wishes → ℕ
 robots w = length w.from
 
+-- the robot's cell
 abbrev pub cell_of : Wishes → ℕ → ℕ
 cell_of w robot = slice_index w.from robot
 

@@ -11,6 +11,7 @@ use Rattle.fleet_sim.specs.declared.column.Column.TheVariants as column
 
 -- ---- a cell as text: a number of thousandths has three decimals
 
+-- the text of a cell: a whole number, thousandths, or `nothing` where there is none
 abbrev pub cell_text : List ℕ → Cell → List ℕ
 cell_text nothing (Whole n) = decimal n
 cell_text nothing (Parts n) = decimal (n / 1000) ++ codes "." ++ decimal (n / 100 % 10) ++ decimal (n / 10 % 10) ++ decimal (n % 10)
@@ -18,13 +19,15 @@ cell_text nothing Nothing = nothing
 
 -- ---- a figure of one run, in thousandths
 
--- thousandths are at most 2^64 - 1, to which no run comes; there are none of a quotient by 0
+-- a quotient in thousandths, at most 2^64 - 1, to which no run comes; none by 0
 abbrev pub quotient : ℕ → ℕ → Option ℕ
 quotient n by = if by == 0 then None else Some (min (n * 1000 / by) (2 ^ 64 - 1))
 
+-- a figure of service times, in thousandths; none where there are no times
 abbrev pub counted : ℕ → ℕ → Option ℕ
 counted count n = if count == 0 then None else quotient n 1
 
+-- a figure of steps, in thousandths already; none where there are no steps
 abbrev pub some_of : ℕ → ℕ → Option ℕ
 some_of count n = if count == 0 then None else Some n
 
@@ -33,6 +36,7 @@ abbrev pub timed : (Times → Option ℕ) → Option Times → Option ℕ
 timed f None = None
 timed f (Some times) = f times
 
+-- the figure of a column; none where a run does not have it
 abbrev pub value_of : Column → Run → Option ℕ
 value_of column.Throughput run = quotient run.figures.arrivals run.figures.ticks
 value_of column.ServiceMedian run = counted run.figures.service.count run.figures.service.median
@@ -48,21 +52,24 @@ value_of column.Planning run = timed (λ t. quotient t.planning t.steps.total) r
 
 -- ---- over runs
 
+-- the figure alone, if there is one
 abbrev pub value_if : Option ℕ → List ℕ
 value_if None = []
 value_if (Some n) = n ∷ []
 
--- those of the runs that have the figure
+-- a figure of the runs that have it
 abbrev pub values_of : Column → List Run → List ℕ
 values_of column runs = flat_map (λ run. value_if (value_of column run)) runs
 
--- sums stay at 2^64 - 1, and those of squares at 2^128 - 1
+-- the mean, rounded down; the sum stays at 2^64 - 1
 abbrev pub mean_of : List ℕ → ℕ
 mean_of xs = fold (λ sum x. min (sum + x) (2 ^ 64 - 1)) 0 xs / max (length xs) 1
 
+-- how far apart two numbers are
 abbrev pub apart : ℕ → ℕ → ℕ
 apart a b = if nat_lt a b then b - a else a - b
 
+-- the sum of the squares of the differences from a number; it stays at 2^128 - 1
 abbrev pub square_sum : List ℕ → ℕ → ℕ
 square_sum xs from = fold (λ sum x. min (sum + apart x from * apart x from) (2 ^ 128 - 1)) 0 xs
 
@@ -70,7 +77,7 @@ square_sum xs from = fold (λ sum x. min (sum + apart x from * apart x from) (2 
 abbrev pub variance_of : List ℕ → ℕ
 variance_of xs = square_sum xs (mean_of xs) / max (length xs - 1) 1
 
--- its root, rounded down
+-- the root of the variance, rounded down
 pub record IsDeviation (xs : List ℕ) (r : ℕ) : Type 0 where
   pub low : r * r ≤ variance_of xs
   pub high : variance_of xs < (r + 1) * (r + 1)
@@ -84,6 +91,7 @@ pub data IsDeviationCell (xs : List ℕ) (cell : Cell) : Type 0 where
   few : length xs < 2 → cell ≡ Nothing → IsDeviationCell xs cell
   more : (r : ℕ) → 2 ≤ length xs → cell ≡ Parts r → IsDeviation xs r → IsDeviationCell xs cell
 
+-- the mean and the deviation of a figure
 pub record IsSpread (xs : List ℕ) (mean deviation : Cell) : Type 0 where
   pub mean_is : mean ≡ mean_cell xs
   pub deviation_is : IsDeviationCell xs deviation
@@ -100,6 +108,7 @@ AreSpreads (c ∷ cs) runs (mean ∷ deviation ∷ cells) = IsSpread (values_of 
 abbrev pub figure_columns : List Column
 figure_columns = column.Throughput ∷ column.ServiceMedian ∷ column.ServiceNinetieth ∷ column.ServiceNinetyNinth ∷ column.Delay ∷ column.DelayRatio ∷ column.LongestWait ∷ []
 
+-- the columns of times, where times are told
 abbrev pub time_columns : Bool → List Column
 time_columns false = []
 time_columns true = column.StepMedian ∷ column.StepNinetyNinth ∷ column.Planning ∷ []

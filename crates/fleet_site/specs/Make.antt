@@ -26,12 +26,14 @@ use Rattle.fleet_site.specs.Record.{Record, record_of}
 
 -- ---- the map without regard to robots: on the map of a chapter a robot that is held is a wall
 
+-- whether there is a robot, and it is held
 abbrev pub is_held_by : Option Standing → Bool
 is_held_by None = false
 is_held_by (Some Moving) = false
 is_held_by (Some Held) = true
 is_held_by (Some Gone) = false
 
+-- whether there is a robot of that number, and it is held
 abbrev pub is_held_at : List Standing → ℕ → Bool
 is_held_at standings robot = is_held_by (slice_get standings robot)
 
@@ -40,6 +42,7 @@ abbrev pub floor_at : List ℕ → Option ℕ → List ℕ
 floor_at letters None = letters
 floor_at letters (Some cell) = slice_set letters cell 46
 
+-- the letters, where the robot's cell is floor if it is held
 abbrev pub opened_one : {A : Type 0} → List ℕ → List Standing → List (RobotState A) → ℕ → List ℕ
 opened_one letters standings robots robot = if is_held_at standings robot then floor_at letters (option_map (λ x. x.cell) (slice_get robots robot)) else letters
 
@@ -66,9 +69,11 @@ IsSiteAt m (Some r) end s = IsOfRobots r × (s ≡ after_site (opened_site m r) 
 
 -- ---- what the changes make of it
 
+-- the record of changes that were made, before the chapter of this number
 abbrev pub record_after : ℕ → List Change → Refit Global → Record Global
 record_after chapter changes refit = record { chapter = chapter; map = checksum refit.grid; changes = changes; dropped = refit.dropped.items; standings = standings_of refit.site.seats; everyone = everyone refit.site }
 
+-- what changes made of the end of a chapter of this number and history, after the record before it if there is one
 pub record IsMade (m : Floor) (before : Option (Record Global)) (number : ℕ) (h : History Global) (changes : List Change) (made : Made) : Type 0 where
   -- the chapter is legal
   pub sound : IsSound m h
@@ -82,12 +87,14 @@ pub record IsMade (m : Floor) (before : Option (Record Global)) (number : ℕ) (
 
 -- ---- why not, out of memory apart
 
+-- why there is no end of the chapter: its history is not sound
 abbrev pub IsEndFault : Floor → History Global → MakeFault → Type 0
 IsEndFault m h fault.Chapter = IsSound m h → ⊥
 IsEndFault m h fault.Robots = ⊥
 IsEndFault m h (fault.Refit why) = ⊥
 IsEndFault m h fault.NoMemory = ⊤
 
+-- why there is no site of the record: its lists are not of the same robots
 abbrev pub IsSiteFault : Record Global → MakeFault → Type 0
 IsSiteFault r fault.Chapter = ⊥
 IsSiteFault r fault.Robots = IsOfRobots r → ⊥

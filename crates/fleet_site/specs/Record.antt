@@ -16,5 +16,6 @@ pub record Record (A : Type 0) : Type 0 where
   pub standings : List Standing
   pub everyone : Opening A
 
+-- a record of the program, without its memory
 abbrev pub record_of : SiteRecord → Record Global
 record_of r = record { chapter = r.chapter; map = r.map; changes = r.changes.items; dropped = r.dropped.items; standings = r.standings.items; everyone = r.everyone }

@@ -14,6 +14,7 @@ use Rattle.fleet_site.specs.Record.{Record}
 abbrev pub numbered : List ℕ → ℕ → Data
 numbered letters n = listed (word letters ∷ counted n ∷ [])
 
+-- a change: its word and its numbers
 abbrev pub change_data : Change → Data
 change_data (change.Block cell) = numbered (codes "block") cell
 change_data (change.Open cell) = numbered (codes "open") cell
@@ -24,14 +25,17 @@ change_data (change.Free robot) = numbered (codes "free") robot
 change_data (change.Move robot cell) = listed (word (codes "move") ∷ counted robot ∷ counted cell ∷ [])
 change_data (change.Cancel client number) = listed (word (codes "cancel") ∷ counted client ∷ counted number ∷ [])
 
+-- an errand that was dropped: the robot, the client, its number, its cell
 abbrev pub dropped_data : Dropped → Data
 dropped_data d = listed (counted d.robot ∷ counted d.client ∷ counted d.number ∷ counted d.cell ∷ [])
 
+-- how a robot takes part, as one word
 abbrev pub standing_data : Standing → Data
 standing_data standing.Moving = word (codes "moving")
 standing_data standing.Held = word (codes "held")
 standing_data standing.Gone = word (codes "gone")
 
+-- a record, as an object of seven members
 abbrev pub record_data : {A : Type 0} → Record A → Data
 record_data r =
     object (member (codes "changes") (listed (map change_data r.changes))
@@ -42,15 +46,17 @@ record_data r =
     (member (codes "standings") (listed (map standing_data r.standings))
     (member (codes "version") (counted 1) no_members)))))))
 
--- the same text in three pieces: up to what was dropped, then the robots, then the rest
+-- the first piece of that text: up to what was dropped
 abbrev pub lists_text : {A : Type 0} → Record A → List ℕ
 lists_text r =
     (codes "{\"changes\":" ++ compact_text (listed (map change_data r.changes))) ++ ((codes ",\"chapter\":" ++ compact_text (counted r.chapter))
     ++ (codes ",\"dropped\":" ++ compact_text (listed (map dropped_data r.dropped))))
 
+-- the last piece of that text: after what is known of all robots
 abbrev pub rest_text : {A : Type 0} → Record A → List ℕ
 rest_text r =
     (codes ",\"map\":" ++ compact_text (counted r.map)) ++ ((codes ",\"standings\":" ++ compact_text (listed (map standing_data r.standings))) ++ codes ",\"version\":1}")
 
+-- the one text of a record
 abbrev pub record_text : {A : Type 0} → Record A → List ℕ
 record_text r = compact_text (record_data r)

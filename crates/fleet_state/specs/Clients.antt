@@ -11,16 +11,19 @@ pub record Clients : Type 0 where
   pub counts : Counts
   pub tallies : List Tally
 
+-- the tally of a client that does not exist: no orders and no notices
 abbrev pub no_tally : Tally
 no_tally = record { taken = 0; noticed = 0 }
 
+-- the client's tally
 abbrev pub tally_at : List Tally → ℕ → Tally
 tally_at tallies c = slice_index_or tallies c no_tally
 
--- an account after this many arrivals, and a tally
+-- an account after this many arrivals
 abbrev pub settled : Account → ℕ → Account
 settled a n = record a { owed = a.owed - n }
 
+-- a tally after this many more notices
 abbrev pub told : Tally → ℕ → Tally
 told t n = record t { noticed = t.noticed + n }
 

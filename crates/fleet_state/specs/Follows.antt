@@ -28,6 +28,7 @@ pub record MayFollow {A : Type 0} (s : State A) (e : Entry A) : Type 0 where
 abbrev pub FollowsTick : {A : Type 0} → State A → List ℕ → State A → Type 0
 FollowsTick s to t = (arrived : List Arrival) (farewells : List Bye) → Follows s (entry.Tick to arrived farewells) t
 
+-- it is the state of a history that may go on with a tick to these cells
 pub record MayTick {A : Type 0} (s : State A) (to : List ℕ) : Type 0 where
   pub arrived : List Arrival
   pub farewells : List Bye
@@ -37,6 +38,7 @@ pub record MayTick {A : Type 0} (s : State A) (to : List ℕ) : Type 0 where
 abbrev pub FollowsShut : {A : Type 0} → State A → ℕ → State A → Type 0
 FollowsShut s robot t = (farewell : Option ℕ) → Follows s (entry.Shut robot farewell) t
 
+-- it is the state of a history that may go on with the robot's shut
 pub record MayShut {A : Type 0} (s : State A) (robot : ℕ) : Type 0 where
   pub farewell : Option ℕ
   pub may : MayFollow s (entry.Shut robot farewell)

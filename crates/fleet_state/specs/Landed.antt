@@ -25,5 +25,6 @@ abbrev pub rest_on : ℕ → List Errand → List Errand
 rest_on cell [] = []
 rest_on cell (f ∷ rest) = if f.cell == cell then rest else f ∷ rest
 
+-- a queue without the errand that is finished on the cell, and with the same room
 abbrev pub without_landed : ℕ → Queue → Queue
 without_landed cell q = record q { items = rest_on cell q.items }

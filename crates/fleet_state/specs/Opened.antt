@@ -16,7 +16,7 @@ use Rattle.fleet_state.specs.Robots.{Robots}
 abbrev pub errands_in : {A : Type 0} → List (RobotState A) → ℕ → List Errand
 errands_in robots r = slice_index_or (map (λ x. x.errands) robots) r []
 
--- they lie in a queue with the robot's room
+-- the errands of a robot, in a queue with its room
 abbrev pub queue_in : {A : Type 0} → List ℕ → List (RobotState A) → ℕ → Queue
 queue_in rooms robots r = record { items = errands_in robots r; capacity = slice_index rooms r }
 
@@ -25,6 +25,7 @@ pub record HaveRooms {A : Type 0} (rooms : List ℕ) (robots : List (RobotState 
   pub count : length rooms ≡ length robots
   pub each : (r : ℕ) → r < length robots → length (errands_in robots r) ≤ slice_index rooms r
 
+-- the tally of a client, by what the opening knows of it
 abbrev pub tally_in : ClientState → Tally
 tally_in x = record { taken = x.taken; noticed = x.noticed }
 
@@ -32,6 +33,7 @@ tally_in x = record { taken = x.taken; noticed = x.noticed }
 abbrev pub owed_in : {A : Type 0} → List (RobotState A) → ℕ → ℕ
 owed_in robots c = sum_by (λ x. count_by (λ e. e.client == c) x.errands) robots
 
+-- the client's account: of the robots' errands, it is owed its own
 abbrev pub account_in : {A : Type 0} → List ClientState → List (RobotState A) → ℕ → Account
 account_in clients robots c = record {
   accepted = (slice_index_or clients c unknown_client).accepted;
@@ -39,6 +41,7 @@ account_in clients robots c = record {
   closed = (slice_index_or clients c unknown_client).closed;
 }
 
+-- the robots at an opening, in queues with these rooms
 abbrev pub robots_in : {A : Type 0} → List ℕ → List (RobotState A) → Robots
 robots_in rooms robots = record {
   cells = map (λ x. x.cell) robots;
@@ -46,6 +49,7 @@ robots_in rooms robots = record {
   waits = map (λ x. x.wait) robots;
 }
 
+-- the clients at an opening
 abbrev pub clients_in : {A : Type 0} → Opening A → Clients
 clients_in o = record {
   counts = record { accounts = map (account_in o.clients o.robots) (range_with_len 0 (length o.clients)); shut = map (λ x. x.shut) o.robots; life = o.life };

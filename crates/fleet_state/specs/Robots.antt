@@ -20,9 +20,11 @@ pub record Robots : Type 0 where
   pub queues : List Queue
   pub waits : List (Option ℕ)
 
+-- the queue of a robot that does not exist: empty, and without room
 abbrev pub no_queue : Queue
 no_queue = record { items = []; capacity = 0 }
 
+-- the robot's queue
 abbrev pub queue_at : List Queue → ℕ → Queue
 queue_at queues r = slice_index_or queues r no_queue
 

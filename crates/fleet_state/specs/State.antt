@@ -29,9 +29,11 @@ pub record State (A : Type 0) : Type 0 where
   pub queue : ℕ
   pub tick : ℕ
 
+-- what `f` gives for each robot, by number
 abbrev pub by_robot : {A X : Type 0} → History A → (ℕ → X) → List X
 by_robot h f = map f (range_with_len 0 (robots h))
 
+-- what `f` gives for each client, by number
 abbrev pub by_client : {A X : Type 0} → History A → (ℕ → X) → List X
 by_client h f = map f (range_with_len 0 (clients h))
 
@@ -39,9 +41,11 @@ by_client h f = map f (range_with_len 0 (clients h))
 abbrev pub queue_after : {A : Type 0} → List ℕ → History A → ℕ → Queue
 queue_after rooms h r = record { items = unfinished h r; capacity = slice_index rooms r }
 
+-- a client's account after a history
 abbrev pub account_after : {A : Type 0} → History A → ℕ → Account
 account_after h c = record { accepted = accepted_count h c; owed = owed h c; closed = is_closed h c }
 
+-- a client's tally after a history
 abbrev pub tally_after : {A : Type 0} → History A → ℕ → Tally
 tally_after h c = record { taken = taken_count h c; noticed = noticed_count h c }
 
@@ -60,9 +64,11 @@ state_after rooms h = record {
 
 -- ---- the parts
 
+-- the robots of a state
 abbrev pub robots_of : {A : Type 0} → State A → Robots
 robots_of s = record { cells = s.cells; queues = s.queues; waits = s.waits }
 
+-- the clients of a state
 abbrev pub clients_of : {A : Type 0} → State A → Clients
 clients_of s = record { counts = s.counts; tallies = s.tallies }
 
@@ -96,9 +102,11 @@ pub record IsState {A : Type 0} (s : State A) : Type 0 where
 abbrev pub Of : {A : Type 0} → State A → (History A → Type 0) → Type 0
 Of {A} s P = (m : Floor) (h : History A) → IsStateOf m h s → P h
 
+-- how many robots there are
 abbrev pub robot_count : {A : Type 0} → State A → ℕ
 robot_count s = length s.queues
 
+-- how many clients there are
 abbrev pub client_count : {A : Type 0} → State A → ℕ
 client_count s = length s.tallies
 

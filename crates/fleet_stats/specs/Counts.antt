@@ -25,6 +25,7 @@ is_acceptance (Take client order v) = is_accepted v
 is_acceptance (Tick to arrived farewells) = false
 is_acceptance (Shut robot farewell) = false
 
+-- whether the verdict withdraws an errand
 abbrev pub is_withdrawn : Verdict → Bool
 is_withdrawn verdict.Withdrawn = true
 is_withdrawn _ = false
@@ -47,15 +48,19 @@ arrivals_shown (Shut robot farewell) = 0
 abbrev pub waiting : {A : Type 0} → History A → ℕ
 waiting h = sum_by (λ r. length (unfinished h r)) (range_with_len 0 (robots h))
 
+-- how many ticks a history has
 abbrev pub tick_count : {A : Type 0} → History A → ℕ
 tick_count h = count_by is_tick h.entries
 
+-- how many errands a history accepts
 abbrev pub acceptance_count : {A : Type 0} → History A → ℕ
 acceptance_count h = count_by is_acceptance h.entries
 
+-- how many errands a history withdraws
 abbrev pub withdrawal_count : {A : Type 0} → History A → ℕ
 withdrawal_count h = count_by is_withdrawal h.entries
 
+-- how many arrivals a history shows
 abbrev pub arrival_count : {A : Type 0} → History A → ℕ
 arrival_count h = sum_by arrivals_shown h.entries
 
@@ -65,7 +70,7 @@ arrival_count h = sum_by arrivals_shown h.entries
 abbrev pub over : {A : Type 0} → (History A → ℕ) → List (Trace A) → ℕ
 over f ts = sum_by (λ t. f t.history) ts
 
--- that of the last chapter
+-- a number of the last chapter; 0 without chapters
 abbrev pub at_end : {A : Type 0} → (History A → ℕ) → List (Trace A) → ℕ
 at_end f [] = 0
 at_end f (t ∷ []) = f t.history

@@ -20,6 +20,7 @@ use Rattle.fleet_stats.specs.Rows.{clients_in, errand_rows, left_rows}
 abbrev pub total_by : {X : Type 0} → (X → ℕ) → List X → ℕ
 total_by f xs = fold (λ sum x. min (sum + f x) (2 ^ 64 - 1)) 0 xs
 
+-- the sum of numbers; it stays at 2^64 - 1
 abbrev pub total : List ℕ → ℕ
 total xs = total_by (λ x. x) xs
 
@@ -61,6 +62,7 @@ wait_times rows = map (λ x. x.done.arrived - x.done.begun) rows
 
 -- ---- of ticks
 
+-- how many robots arrived, tick by tick
 abbrev pub arrivals_of : List TickRow → List ℕ
 arrivals_of ticks = map (λ x. x.arrivals) ticks
 
@@ -73,6 +75,7 @@ abbrev pub windows_below : List ℕ → ℕ → List ℕ
 windows_below xs zero = []
 windows_below xs (suc k) = windows_below xs k ++ total (take 100 (drop (k * 100) xs)) ∷ []
 
+-- the sum of each window of 100, in order
 abbrev pub windows_of : List ℕ → List ℕ
 windows_of xs = windows_below xs (window_count (length xs))
 
@@ -82,6 +85,7 @@ windows_of xs = windows_below xs (window_count (length xs))
 abbrev pub count_of : List ℕ → ℕ → ℕ
 count_of kinds k = count_by (λ x. x == k) kinds
 
+-- whether the kind of a verdict is a refusal: its code, from 1 to 10
 abbrev pub is_refusal : ℕ → Bool
 is_refusal k = nat_lt 0 k && nat_lt k 11
 
@@ -101,6 +105,7 @@ first_tick (t ∷ ts) = t.history.opening.tick
 abbrev pub rows_in : {A : Type 0} → Floor → List (Trace A) → Notes → List ErrandRow
 rows_in m ts n = errand_rows m (clients_in ts) n.taken n.landed
 
+-- the errands of a run that are left, with its notes
 abbrev pub left_in : {A : Type 0} → List (Trace A) → Notes → List LeftRow
 left_in ts n = left_rows (clients_in ts) n.taken n.left
 
@@ -126,6 +131,7 @@ summary_of m ts n rows service waited limit = record {
   distance = total_by (λ x. unwrap_or x.distance 0) rows;
 }
 
+-- the figures of a run, with its notes and its rows of errands
 pub record IsSummary {A : Type 0} (m : Floor) (ts : List (Trace A)) (n : Notes) (rows : List ErrandRow) (s : Summary) : Type 0 where
   pub service : IsSpread (service_times rows) s.service
   pub wait : IsSpread (wait_times rows) s.wait

@@ -13,10 +13,11 @@ use Rattle.fleet_stats.specs.Figures.{total, total_by, greatest_by, service_time
 use Rattle.fleet_stats.specs.Ranks.{AreRanks}
 use Rattle.fleet_stats.specs.Chapters.{AreSound}
 
--- the ticks with numbers above the clock, and the errands that were done in them
+-- the ticks with numbers above the clock
 abbrev pub ticks_after : ℕ → List TickRow → List TickRow
 ticks_after clock ticks = filter (λ x. nat_lt clock x.tick) ticks
 
+-- the errands that were done in ticks with numbers above the clock
 abbrev pub served_after : ℕ → List Served → List Served
 served_after clock served = filter (λ x. nat_lt clock x.done.arrived) served
 

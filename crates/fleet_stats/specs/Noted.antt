@@ -51,18 +51,22 @@ kind_of verdict.LifeSpent = 8
 kind_of verdict.NoErrand = 9
 kind_of verdict.TooLate = 10
 
+-- the acceptance of a client's errand, where the verdict is of kind 0, with the clock of the take
 abbrev pub taken_if : ℕ → ℕ → ℕ → List Taken
 taken_if tick client kind = if kind == 0 then record { client = client; tick = tick } ∷ [] else []
 
 -- ---- a tick
 
+-- the robot's wait, in ticks; `None` where it has no errand
 abbrev pub wait_at : List (Option ℕ) → ℕ → Option ℕ
 wait_at waits r = slice_index_or waits r None
 
+-- whether a robot with this wait has an errand
 abbrev pub is_busy : Option ℕ → Bool
 is_busy None = false
 is_busy (Some w) = true
 
+-- whether a robot with this wait has no errand
 abbrev pub is_idle : Option ℕ → Bool
 is_idle None = true
 is_idle (Some w) = false
@@ -79,6 +83,7 @@ stands waits from to r = is_busy (wait_at waits r) && (slice_index from r == sli
 abbrev pub longest : List (Option ℕ) → ℕ
 longest waits = fold (λ most w. max most (unwrap_or w 0)) 0 waits
 
+-- the figures of the tick after this clock, by the waits before it, the cells before and after it, and the arrivals
 abbrev pub tick_row : ℕ → List (Option ℕ) → List ℕ → List ℕ → List Arrival → TickRow
 tick_row clock waits from to arrived = record {
   tick = clock + 1;
@@ -88,20 +93,23 @@ tick_row clock waits from to arrived = record {
   waited = longest waits;
 }
 
--- the cells of the robots below this number that stand
+-- the cell alone if the test passes, or else none
 abbrev pub cell_if : Bool → ℕ → List ℕ
 cell_if true cell = cell ∷ []
 cell_if false cell = []
 
+-- the cells of the robots below this number that stand
 abbrev pub stood_below : List (Option ℕ) → List ℕ → List ℕ → ℕ → List ℕ
 stood_below waits from to zero = []
 stood_below waits from to (suc r) = stood_below waits from to r ++ cell_if (stands waits from to r) (slice_index to r)
 
 -- ---- ways
 
+-- the way of a robot that does not exist
 abbrev pub no_leg : Leg
 no_leg = record { from = 0; steps = 0 }
 
+-- the robot's way to its front errand
 abbrev pub leg_at : List Leg → ℕ → Leg
 leg_at legs r = slice_index_or legs r no_leg
 
@@ -114,9 +122,11 @@ step_more false steps = steps
 abbrev pub walked : List ℕ → List ℕ → List Leg → ℕ → Leg
 walked from to legs r = record { from = (leg_at legs r).from; steps = step_more (moves from to r) (leg_at legs r).steps }
 
+-- a way that begins on the cell
 abbrev pub begun_on : ℕ → Leg
 begun_on cell = record { from = cell; steps = 0 }
 
+-- whether the robot is among those that arrive
 abbrev pub arrives : List Arrival → ℕ → Bool
 arrives arrived r = list_any (λ a. a.robot == r) arrived
 
@@ -125,6 +135,7 @@ abbrev pub leg_after : List (Option ℕ) → List ℕ → List ℕ → List Arri
 leg_after waits from to arrived legs r =
     if is_busy (wait_at waits r) && not (arrives arrived r) then walked from to legs r else begun_on (slice_index to r)
 
+-- the ways of all robots after a tick
 abbrev pub legs_after : List (Option ℕ) → List ℕ → List ℕ → List Arrival → List Leg → List Leg
 legs_after waits from to arrived legs = map (leg_after waits from to arrived legs) (range_with_len 0 (length to))
 
@@ -142,12 +153,14 @@ landed_by clock waits from to legs a = record {
 
 -- ---- all entries
 
+-- one more take at this clock, with its verdict
 abbrev pub take_noted : ℕ → ℕ → Verdict → Notes → Notes
 take_noted clock client v n = record n {
   taken = n.taken ++ taken_if clock client (kind_of v);
   kinds = n.kinds ++ kind_of v ∷ [];
 }
 
+-- one more tick after this clock, by the waits, the cells before and after it, and the arrivals
 abbrev pub tick_noted : ℕ → List (Option ℕ) → List ℕ → List ℕ → List Arrival → Notes → Notes
 tick_noted clock waits from to arrived n = record n {
   legs = legs_after waits from to arrived n.legs;
@@ -166,6 +179,7 @@ note_by clock waits from (Shut robot farewell) n = n
 abbrev pub waits : {A : Type 0} → History A → List (Option ℕ)
 waits h = by_robot h (wait h)
 
+-- one more entry after the history
 abbrev pub note : {A : Type 0} → History A → Entry A → Notes → Notes
 note h e n = note_by (clock h) (waits h) (place h) e n
 
@@ -180,9 +194,11 @@ entries_noted h n = noted (start h.opening) h.entries n
 
 -- ---- what is left
 
+-- an errand that is left in the robot's queue
 abbrev pub left_by : ℕ → Errand → Left
 left_by r e = record { client = e.client; number = e.number; robot = r; cell = e.cell }
 
+-- an errand that is left in the robot's queue, where there is one
 abbrev pub left_if : ℕ → Option Errand → List Left
 left_if r None = []
 left_if r (Some e) = left_by r e ∷ []

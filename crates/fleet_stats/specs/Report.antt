@@ -43,6 +43,7 @@ pub record IsStatsOn (what : StatsForm) (m : Floor) (texts : List (List ℕ)) (t
   pub told : TellChapters m texts traces
   pub reported : IsReported what m traces text
 
+-- the text for traces on the map of a text
 pub record IsStats (what : StatsForm) (map : List ℕ) (texts : List (List ℕ)) (text : List ℕ) : Type 0 where
   pub floor : Map
   pub read : map_of map ≡ Ok floor

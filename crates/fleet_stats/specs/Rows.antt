@@ -30,7 +30,7 @@ clients_in (t ∷ ts) = t.history.opening.clients
 abbrev pub times_of : List Taken → ℕ → List ℕ
 times_of taken c = map (λ x. x.tick) (filter (λ x. x.client == c) taken)
 
--- those of each client
+-- the clocks at which errands were accepted, by client
 abbrev pub all_times : List Taken → ℕ → List (List ℕ)
 all_times taken clients = map (times_of taken) (range_with_len 0 clients)
 
@@ -52,10 +52,12 @@ accepted_at clients times c number = time_in (accepted_before clients c) number 
 abbrev pub away : Floor → ℕ → ℕ → Option ℕ
 away m from to = if is_floor m from && is_floor m to then distance m from to else None
 
+-- an errand that was done, where the run accepted it, with the clock of its acceptance
 abbrev pub served_if : Option ℕ → Landed → List Served
 served_if None x = []
 served_if (Some t) x = record { accepted = t; done = x } ∷ []
 
+-- an errand that was done, where the run accepted it, by the clocks of the acceptances
 abbrev pub served_of : List ClientState → List (List ℕ) → Landed → List Served
 served_of clients times x = served_if (accepted_at clients times x.client x.number) x
 
@@ -63,6 +65,7 @@ served_of clients times x = served_if (accepted_at clients times x.client x.numb
 abbrev pub served_rows : List ClientState → List Taken → List Landed → List Served
 served_rows clients taken landed = flat_map (served_of clients (all_times taken (length clients))) landed
 
+-- a row of an errand that was done, with the distance from where its robot began it
 abbrev pub measured : Floor → Served → ErrandRow
 measured m x = record { accepted = x.accepted; done = x.done; distance = away m x.done.leg.from x.done.cell }
 

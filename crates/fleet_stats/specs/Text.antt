@@ -15,10 +15,12 @@ use Rattle.fleet_stats.specs.Figures.{count_of, is_refusal}
 
 -- ---- one figure; its name has two parts
 
+-- a whole number
 abbrev pub whole_line : Style → List ℕ → List ℕ → ℕ → List ℕ
 whole_line Text group name n = group ++ (name ++ (codes " " ++ (decimal n ++ codes "\n")))
 whole_line Json group name n = codes "\"" ++ (group ++ (name ++ (codes "\":" ++ (decimal n ++ codes ","))))
 
+-- a figure that there is not
 abbrev pub none_line : Style → List ℕ → List ℕ → List ℕ
 none_line Text group name = group ++ (name ++ codes " none\n")
 none_line Json group name = codes "\"" ++ (group ++ (name ++ codes "\":null,"))
@@ -34,6 +36,7 @@ parts_line Json group name whole part =
 abbrev pub ratio_line : Style → List ℕ → List ℕ → ℕ → ℕ → List ℕ
 ratio_line style group name n d = if d == 0 then none_line style group name else parts_line style group name (n / d) (n % d * 1000 / d)
 
+-- a whole number, if there is one
 abbrev pub option_line : Style → List ℕ → List ℕ → Option ℕ → List ℕ
 option_line style group name None = none_line style group name
 option_line style group name (Some n) = whole_line style group name n
@@ -44,6 +47,7 @@ counted_line style group name count n = if count == 0 then none_line style group
 
 -- ---- groups of figures
 
+-- what the run was of: robots, clients, floor cells, its first tick, and how many ticks
 abbrev pub run_text : Style → Summary → List ℕ
 run_text style s =
     whole_line style (codes "") (codes "robots") s.robots
@@ -52,6 +56,7 @@ run_text style s =
     ++ (whole_line style (codes "") (codes "first_tick") s.first_tick
     ++ whole_line style (codes "") (codes "ticks") s.ticks)))
 
+-- how many orders there were, and how many of them were accepted, closed, withdrawn or refused
 abbrev pub orders_text : Style → List ℕ → List ℕ
 orders_text style kinds =
     whole_line style (codes "") (codes "orders") (length kinds)
@@ -60,6 +65,7 @@ orders_text style kinds =
     ++ (whole_line style (codes "") (codes "withdrawn") (count_of kinds 12)
     ++ whole_line style (codes "") (codes "refused") (count_by is_refusal kinds))))
 
+-- how many orders were refused with this code; nothing where no refusal has it
 abbrev pub refusal_line : Style → List ℕ → ℕ → Option Verdict → List ℕ
 refusal_line style kinds code None = []
 refusal_line style kinds code (Some v) = whole_line style (codes "refused_") (verdict_name v) (count_of kinds code)
@@ -69,6 +75,7 @@ abbrev pub refusals_below : Style → List ℕ → ℕ → List ℕ
 refusals_below style kinds zero = []
 refusals_below style kinds (suc k) = refusals_below style kinds k ++ refusal_line style kinds (k + 1) (refusal_of (k + 1))
 
+-- arrivals, arrivals a tick, what is unfinished, and how many errands the run accepted and did
 abbrev pub done_text : Style → Summary → List ℕ
 done_text style s =
     whole_line style (codes "") (codes "arrivals") s.arrivals
@@ -83,6 +90,7 @@ spread_text style group x =
     ++ (counted_line style group (codes "_p95") x.count x.high
     ++ counted_line style group (codes "_greatest") x.count x.greatest))
 
+-- the steps of the robots, the distances, and the one by the other
 abbrev pub ways_text : Style → Summary → List ℕ
 ways_text style s =
     whole_line style (codes "") (codes "steps") s.steps
@@ -97,33 +105,39 @@ robots_text style s =
     ++ (whole_line style (codes "") (codes "moves") s.moves
     ++ whole_line style (codes "") (codes "stands") s.stands)))
 
+-- what was done, the times of service, the waits, and the ways
 abbrev pub fleet_text : Style → Summary → List ℕ
 fleet_text style s = done_text style s ++ (spread_text style (codes "service") s.service ++ (spread_text style (codes "wait") s.wait ++ ways_text style s))
 
+-- all figures but for the windows
 abbrev pub figures_text : Style → Summary → List ℕ → List ℕ
 figures_text style s kinds = run_text style s ++ (orders_text style kinds ++ (refusals_below style kinds 10 ++ (fleet_text style s ++ robots_text style s)))
 
 -- ---- the arrivals in windows
 
+-- numbers with a blank before each
 abbrev pub blank_before : List ℕ → List ℕ
 blank_before ns = flat_map (λ n. codes " " ++ decimal n) ns
 
--- numbers with a comma before each but the first
+-- a comma, but for the first place
 abbrev pub comma_before : ℕ → List ℕ
 comma_before place = if place == 0 then [] else codes ","
 
+-- numbers from this place on, with a comma before each but the first
 abbrev pub commas_from : ℕ → List ℕ → List ℕ
 commas_from place [] = []
 commas_from place (n ∷ ns) = (comma_before place ++ decimal n) ++ commas_from (place + 1) ns
 
 -- ---- all figures
 
+-- all figures, with the arrivals in windows
 abbrev pub summary_text : Style → Summary → List ℕ → List ℕ → List ℕ
 summary_text Text s kinds windows = figures_text Text s kinds ++ (codes "window_arrivals" ++ (blank_before windows ++ codes "\n"))
 summary_text Json s kinds windows = codes "{" ++ (figures_text Json s kinds ++ (codes "\"window_arrivals\":[" ++ (commas_from 0 windows ++ codes "]}\n")))
 
 -- ---- tables, with commas between the columns
 
+-- a number, or nothing in its column
 abbrev pub option_text : Option ℕ → List ℕ
 option_text None = []
 option_text (Some n) = decimal n
@@ -137,9 +151,11 @@ abbrev pub times_text : ℕ → Landed → List ℕ
 times_text accepted x =
     decimal accepted ++ (codes "," ++ (decimal x.begun ++ (codes "," ++ (decimal x.arrived ++ (codes "," ++ (decimal x.leg.from ++ (codes "," ++ (decimal x.leg.steps ++ codes ","))))))))
 
+-- the row of an errand that was done
 abbrev pub errand_line : ErrandRow → List ℕ
 errand_line x = names_text x.done ++ (times_text x.accepted x.done ++ (option_text x.distance ++ codes "\n"))
 
+-- the names of the columns of errands
 abbrev pub errands_head : List ℕ
 errands_head = codes "client,number,robot,cell,accepted,begun,arrived,from,steps,distance\n"
 
@@ -150,12 +166,15 @@ left_line x = decimal x.left.client ++ (codes "," ++ (decimal x.left.number ++ (
 abbrev pub errands_table : List ErrandRow → List LeftRow → List ℕ
 errands_table rows left = errands_head ++ (flat_map errand_line rows ++ flat_map left_line left)
 
+-- the row of a tick
 abbrev pub tick_line : TickRow → List ℕ
 tick_line x = decimal x.tick ++ (codes "," ++ (decimal x.arrivals ++ (codes "," ++ (decimal x.moves ++ (codes "," ++ (decimal x.idle ++ (codes "," ++ (decimal x.waited ++ codes "\n"))))))))
 
+-- the names of the columns of ticks
 abbrev pub ticks_head : List ℕ
 ticks_head = codes "tick,arrivals,moves,idle,longest_wait\n"
 
+-- the table of ticks
 abbrev pub ticks_table : List TickRow → List ℕ
 ticks_table rows = ticks_head ++ flat_map tick_line rows
 
@@ -170,8 +189,10 @@ abbrev pub cells_below : ℕ → (ℕ → ℕ) → ℕ → List ℕ
 cells_below width stands zero = []
 cells_below width stands (suc cell) = cells_below width stands cell ++ cell_line width cell (stands cell)
 
+-- the names of the columns of cells
 abbrev pub cells_head : List ℕ
 cells_head = codes "cell,row,column,stands\n"
 
+-- the table of cells on which robots with errands stood, by cell
 abbrev pub cells_table : ℕ → List ℕ → ℕ → List ℕ
 cells_table width stood cells = cells_head ++ cells_below width (count_of stood) cells

@@ -36,7 +36,7 @@ pub record IsListed (m : Floor) (text : List ℕ) (l : Listed) : Type 0 where
   pub count : l.count ≡ length cells
   pub greatest : IsGreatestFor m cells l.roomy_for
 
--- the same, if there is a list
+-- how many cells the list has, and for how many robots all are roomy, if there is a list
 abbrev pub AreListed : Floor → Option (List ℕ) → Option Listed → Type 0
 AreListed m None None = Unit {0}
 AreListed m None (Some l) = ⊥
@@ -58,16 +58,19 @@ pub record AreFigures (text_of : Survey → Option Listed → List ℕ) (m : Flo
   pub are : AreListed m cells listed
   pub told : text ≡ text_of survey listed
 
+-- the text is that of the map, pruned for n robots
 pub record IsPrunedText (m : Floor) (n : ℕ) (text : List ℕ) : Type 0 where
   pub map : Floor
   pub is : IsPruned n m map
   pub told : text ≡ map_text map
 
+-- the text is a picture of the map's survey for n robots
 pub record IsPictured (m : Floor) (n : ℕ) (text : List ℕ) : Type 0 where
   pub survey : Survey
   pub is : IsSurvey m n survey
   pub told : text ≡ picture_text survey
 
+-- the text has walls of the map to be opened, and how many cells are not roomy for n robots then
 pub record IsMendedText (m : Floor) (n : ℕ) (text : List ℕ) : Type 0 where
   pub mending : Mending
   pub is : IsMending m n mending
@@ -81,6 +84,7 @@ IsToldOn form.Pruned m n cells text = IsPrunedText m n text
 IsToldOn form.Picture m n cells text = IsPictured m n text
 IsToldOn form.Mended m n cells text = IsMendedText m n text
 
+-- the text is told in this form of a map's text for n robots, and of a list of cells if there is one
 pub record IsTold (form : SurveyForm) (n : ℕ) (map : List ℕ) (cells : Option (List ℕ)) (text : List ℕ) : Type 0 where
   pub floor : Floor
   pub reads : Reads map floor

@@ -8,6 +8,7 @@ use Rattle.fleet_survey.specs.declared.fault.CellsFault.TheVariants as cells_fau
 
 -- ---- words
 
+-- whether the byte is a comma
 abbrev pub is_comma : ℕ → Bool
 is_comma b = b == 44
 
@@ -15,6 +16,7 @@ is_comma b = b == 44
 abbrev pub cell_on : Floor → (column row : ℕ) → Option ℕ
 cell_on m column row = if nat_lt column m.width then (if nat_lt row m.height then Some (row * m.width + column) else None) else None
 
+-- the cell in a column and a row, if both are numbers and the map has them
 abbrev pub cell_by : Floor → (column row : Option ℕ) → Option ℕ
 cell_by m None row = None
 cell_by m (Some column) None = None
@@ -25,6 +27,7 @@ abbrev pub cell_at : Floor → List ℕ → Option ℕ → Option ℕ
 cell_at m word None = number_of word
 cell_at m word (Some k) = cell_by m (number_of (take k word)) (number_of (drop (k + 1) word))
 
+-- the cell, if there is one and it is floor
 abbrev pub floor_only : Floor → Option ℕ → Option ℕ
 floor_only m None = None
 floor_only m (Some cell) = if is_floor m cell then Some cell else None
@@ -35,6 +38,7 @@ named_cell m word = floor_only m (cell_at m word (position is_comma word))
 
 -- ---- lines
 
+-- the cell and the cells after it; `None` where either is missing
 abbrev pub and_these : Option ℕ → Option (List ℕ) → Option (List ℕ)
 and_these None cells = None
 and_these (Some cell) None = None
@@ -45,6 +49,7 @@ abbrev pub named_cells : Floor → List (List ℕ) → Option (List ℕ)
 named_cells m [] = Some []
 named_cells m (word ∷ words) = and_these (named_cell m word) (named_cells m words)
 
+-- the cells of a line and of the lines after it, or the number of the first line with a word that names none
 abbrev pub and_lines : ℕ → Option (List ℕ) → Result (List ℕ) ℕ → Result (List ℕ) ℕ
 and_lines number None rest = Err number
 and_lines number (Some cells) (Err bad) = Err bad

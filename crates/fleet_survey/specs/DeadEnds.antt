@@ -22,6 +22,7 @@ pub record IsDeadEnd (m : Floor) (In Out : ℕ → Type 0) (e : DeadEnd) : Type 
   pub once : AllPairs (λ a b. a ≢ b) e.cells.items
   pub mouth : IsMouth m Out e.cells.items e.mouth
 
+-- the cell is one of the dead end
 abbrev pub HasCell : ℕ → DeadEnd → Type 0
 HasCell c e = Contains e.cells.items c
 
@@ -33,6 +34,7 @@ pub record AreDeadEnds (m : Floor) (In Out : ℕ → Type 0) (ends : List DeadEn
 
 -- ---- by marks
 
+-- the cell is marked
 abbrev pub IsMarked : List Bool → ℕ → Type 0
 IsMarked marks c = has marks c ≡ true
 

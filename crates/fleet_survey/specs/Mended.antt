@@ -6,6 +6,7 @@ use Rattle.fleet_roomy.specs.Unroomy.{IsUnroomyCell, has}
 use Rattle.fleet_survey.specs.Survey.{AreCells}
 use Rattle.fleet_survey.specs.declared.mend.Mending.{Mending}
 
+-- the cell is no floor
 abbrev pub IsWall : Floor → ℕ → Type 0
 IsWall m c = IsFloor m c → ⊥
 

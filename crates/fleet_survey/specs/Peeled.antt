@@ -23,7 +23,7 @@ Says There More = Unit {0}
 abbrev pub SaysAround : Floor → List Bool → ℕ → Around → Type 0
 SaysAround m marks cell found = Says (λ d. IsNeighbour m cell d × (has marks d ≡ true)) found
 
--- those found before, and perhaps one more
+-- the cells that were found before, and perhaps one more
 abbrev pub with_next : Around → Option ℕ → Around
 with_next found None = found
 with_next Nobody (Some next) = One next
@@ -40,7 +40,7 @@ pub record IsPeeled (m : Floor) (before after : List Bool) : Type 0 where
   pub less : (c : ℕ) → has after c ≡ true → has before c ≡ true
   pub fit : (n : ℕ) (s : Floor) → 2 ≤ n → IsFit n s → IsWithin s m → Covers s before → Covers s after
 
--- the same for n robots
+-- some marks were taken away, from no cell of a map that is fit for n robots and was marked
 pub record IsPeeledFor (n : ℕ) (m : Floor) (before after : List Bool) : Type 0 where
   pub size : length after ≡ length before
   pub less : (c : ℕ) → has after c ≡ true → has before c ≡ true

@@ -38,6 +38,7 @@ pub record IsMapOf (m : Floor) (marks : List Bool) (p : Floor) : Type 0 where
   pub width : p.width ≡ m.width
   pub floor : (c : ℕ) → IsFloor p c ↔ (has marks c ≡ true)
 
+-- the letter of a cell: `.` for floor, `@` for a wall
 abbrev pub letter_for : Bool → ℕ
 letter_for true = 46
 letter_for false = 64

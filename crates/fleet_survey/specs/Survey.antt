@@ -23,6 +23,7 @@ pub record AreCells (In : ℕ → Type 0) (cells : List ℕ) : Type 0 where
   pub each : (c : ℕ) → Contains cells c ↔ In c
   pub order : AllPairs (λ a b. a < b) cells
 
+-- the cell alone if the test passes, or else none
 abbrev pub cell_if : Bool → ℕ → List ℕ
 cell_if true cell = cell ∷ []
 cell_if false cell = []

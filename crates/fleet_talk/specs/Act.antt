@@ -24,6 +24,7 @@ pub data Act : Type 0 where
   -- a client's post is refused, since its cell is not roomy
   refuse : Option (List ℕ) → ℕ → Act
 
+-- what is done at a line that asks this, in order
 abbrev pub acts_asked : Line → Asked → List Act
 acts_asked line Nothing = []
 acts_asked line (Events more) = replicate more.times (play line.mark more.event)
@@ -35,7 +36,7 @@ acts_asked line Other = say line.mark (bad_line line.number) ∷ []
 acts_asked line Long = say line.mark (bad_line line.number) ∷ []
 acts_asked line (NoRoom client) = refuse line.mark client ∷ []
 
--- the same as one act, and how many times it is done
+-- the same as one act
 abbrev pub act_asked : Line → Asked → Act
 act_asked line (Events more) = play line.mark more.event
 act_asked line Chapter = turn line.mark
@@ -48,6 +49,7 @@ act_asked line (NoRoom client) = refuse line.mark client
 act_asked line Nothing = say None []
 act_asked line Quit = say None []
 
+-- how many times that act is done
 abbrev pub times_asked : Asked → ℕ
 times_asked Nothing = 0
 times_asked (Events more) = more.times

@@ -33,6 +33,7 @@ abbrev pub word_asked : List (List ℕ) → Asked
 word_asked [] = Other
 word_asked (word ∷ words) = if bytes_eq word (codes "open") then open_asked (one_in most32 words) else first_asked word words
 
+-- what a line of these words asks, by what it says as an event line
 abbrev pub asked_on : Said → List (List ℕ) → Asked
 asked_on said.nothing words = Nothing
 asked_on (said.events more) words = Events (record { event = more.event; times = more.times })
@@ -44,15 +45,17 @@ asked_in line = asked_on (event_line_in line) (words_of line)
 
 -- ---- marks
 
+-- whether a line begins with @
 abbrev pub is_marked : List ℕ → Bool
 is_marked [] = false
 is_marked (first ∷ rest) = first == 64
 
--- the bytes before the first blank, and those after it
+-- the bytes before the first blank, by its place; all where there is none
 abbrev pub before_blank : Option ℕ → List ℕ → List ℕ
 before_blank None line = line
 before_blank (Some end) line = take end line
 
+-- the bytes after the first blank, by its place; none where there is none
 abbrev pub after_blank : Option ℕ → List ℕ → List ℕ
 after_blank None line = []
 after_blank (Some end) line = drop (end + 1) line

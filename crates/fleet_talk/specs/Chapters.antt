@@ -18,6 +18,7 @@ pub record ChapterView (A : Type 0) : Type 0 where
   pub number : ℕ
   pub history : History A
 
+-- a chapter of the program, without its memory
 abbrev pub chapter_shown : {A : Type 0} → Chapter A → ChapterView A
 chapter_shown c = record { number = c.number; history = history_of c }
 

@@ -29,13 +29,15 @@ use Rattle.fleet_talk.specs.Says.{Says}
 
 -- ---- the fleet of a head
 
--- the clients, the limits and the closures' laws that a head gives, and a conversation's own where it says nothing
+-- how many clients a head gives, and 1 where it gives none
 abbrev pub clients_in : Draft → ℕ
 clients_in d = unwrap_or d.clients 1
 
+-- the limits that a head gives, and a conversation's own for the others
 abbrev pub limits_in : Draft → Limits
 limits_in d = limits_over TALK_LIMITS d.limits
 
+-- the laws of the closures that a head chooses, the plain ones if it does not say, for robots with these starts
 abbrev pub laws_in : KitLaws → Draft → List ℕ → HookLaws
 laws_in kit d starts = cut_laws (length starts) (if unwrap_or d.south false then kit.south else kit.plain)
 
@@ -58,11 +60,11 @@ MayOpen on o = CanOpen on.floor o.starts (clients_in o.head) (limits_in o.head) 
 abbrev pub opened : {A : Type 0} → Terms → Opening → Option Turns → Fleet A
 opened on o turns = opened_fleet (in_turns turns (opened_talk on.floor o.starts (clients_in o.head) (limits_in o.head) (laws_in on.kit o.head o.starts)))
 
--- they are those of the manner that is asked for: none where it is the plain one
+-- the turns are those of the manner that is asked for: none where it is the plain one
 abbrev pub Takes : Terms → Opening → Option Turns → Type 0
 Takes on o turns = AreTaken {A = Global} on.settings.manner (opened on o None).talk.world turns
 
--- posts to exactly these cells are refused in it
+-- posts to exactly these cells are refused in the fleet
 abbrev pub Refuses : Terms → Opening → List Bool → Type 0
 Refuses on o cells = AreRefused on.settings.roomy on.floor (length o.starts) cells
 
@@ -113,7 +115,7 @@ IsUnopened kit m asked starts d other = ⊥
 
 -- ---- how one ends
 
--- what a sink had kept before, and what it has kept now
+-- what a sink had kept before, and what it has kept now, where that is known
 pub record KeptChapters : Type 0 where
   pub old : Option (List (ChapterView Global))
   pub new : Option (List (ChapterView Global))

@@ -25,10 +25,12 @@ abbrev pub order_let_in : List Bool → Repeat → ℕ → Order → Asked
 order_let_in cells more client (Go robot cell) = if has cells cell then NoRoom client else Events more
 order_let_in cells more client order = Events more
 
+-- what a line of this event asks of such a fleet
 abbrev pub event_let_in : List Bool → Repeat → Event → Asked
 event_let_in cells more (Post client order) = order_let_in cells more client order
 event_let_in cells more event = Events more
 
+-- what a line asks of such a fleet that would ask this of another
 abbrev pub let_in : List Bool → Asked → Asked
 let_in cells (Events more) = event_let_in cells more more.event
 let_in cells asked = asked

@@ -2,7 +2,7 @@
 use Rattle.std.specs.Prelude.{Bool, false}
 use Rattle.fleet_world.specs.Talk.{Talk}
 
--- its world, what waits of its clients, and whether a limit was met since it was opened
+-- a fleet's world, what waits of its clients, and whether a limit was met since it was opened
 pub record Fleet (A : Type 0) : Type 0 where
   pub talk : Talk A
   pub met : Bool

@@ -9,6 +9,7 @@ use Rattle.fleet_talk.specs.declared.ask.Asked.TheVariants.{Nothing, Other}
 use Rattle.fleet_talk.specs.Ask.{asked_in}
 use Rattle.fleet_talk.specs.Heard.{with_words}
 
+-- what header lines said, with one more line that asks this; none where it is no line of a head
 abbrev pub with_asked : Draft → List ℕ → Asked → Option Draft
 with_asked d line Nothing = Some d
 with_asked d line Other = with_words d (words_of line)

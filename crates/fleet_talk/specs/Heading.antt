@@ -35,6 +35,7 @@ pub record IsOfHead (d : Draft) (line : Line) : Type 0 where
 abbrev pub is_good : Draft → Line → Bool
 is_good d line = is_some (with_head_line d line line.asked)
 
+-- what is said to a line of a head, after header lines that said this
 abbrev pub texts_at : Settings → Draft → Line → List (List ℕ)
 texts_at settings d line = header_texts settings line (is_good d line)
 

@@ -50,14 +50,16 @@ opens d Look = d.starts
 opens d (Open client) = d.starts
 opens d _ = None
 
--- what is said to a line of the head: whether it is one, and that it was answered
+-- what is said to a line of the head if it is none: that it is a bad line
 abbrev pub bad_texts : Line → Bool → List (List ℕ)
 bad_texts line true = []
 bad_texts line false = marked line.mark (bad_line line.number) ∷ []
 
+-- the end of a line's answer, where that is to be said
 abbrev pub end_texts : Settings → Line → List (List ℕ)
 end_texts settings line = if settings.marks then marked line.mark (end_line line.number) ∷ [] else []
 
+-- all that is said to a line of the head
 abbrev pub header_texts : Settings → Line → Bool → List (List ℕ)
 header_texts settings line good = bad_texts line good ++ end_texts settings line
 
@@ -75,9 +77,11 @@ pub record Head : Type 0 where
   pub said : List (List ℕ)
   pub opening : Option Opening
 
+-- the head of no lines
 abbrev pub no_head : Head
 no_head = record { said = []; opening = None }
 
+-- the head, with these texts said before
 abbrev pub with_said : List (List ℕ) → Head → Head
 with_said texts h = record { said = texts ++ h.said; opening = h.opening }
 

@@ -7,10 +7,11 @@ use Rattle.fleet_history.specs.declared.history.RobotState.{RobotState}
 use Rattle.fleet_history.specs.History.{History, clients, clock, robots}
 use Rattle.fleet_world.specs.Talk.{Talk}
 
--- a sum and a product that stop at the greatest number of 64 bits
+-- a sum that stops at the greatest number of 64 bits
 abbrev pub capped : ℕ → ℕ → ℕ
 capped a b = min (a + b) (2 ^ 64 - 1)
 
+-- a product that stops at the greatest number of 64 bits
 abbrev pub product : ℕ → ℕ → ℕ
 product a b = min (a * b) (2 ^ 64 - 1)
 
@@ -26,10 +27,11 @@ opening_bytes robots clients = capped (capped 128 (product robots 136)) (product
 abbrev pub tick_bytes : ℕ → ℕ
 tick_bytes robots = capped 128 (product robots 8)
 
--- the ticks of a chapter, and its other entries
+-- how many entries of a chapter are ticks
 abbrev pub ticks_in : {A : Type 0} → History A → ℕ
 ticks_in h = clock h - h.opening.tick
 
+-- how many entries of a chapter are not ticks
 abbrev pub others_in : {A : Type 0} → History A → ℕ
 others_in h = length h.entries - ticks_in h
 

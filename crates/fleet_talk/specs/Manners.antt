@@ -12,14 +12,15 @@ pub record AreTaken {A : Type 0} (manner : Manner) (w : World A) (turns : Option
   pub has : HasTurns w.floor (robots w.history) turns
   pub chosen : IsManner w.floor manner turns
 
--- its chapter has no entry, and its robots take no turns
+-- the world's chapter has no entry, and its robots take no turns
 pub record IsFresh {A : Type 0} (w : World A) : Type 0 where
   pub entries : w.history.entries ≡ []
   pub plain : w.turns ≡ None
 
--- the same, but that the robots take these turns
+-- the world, but that its robots take these turns
 abbrev pub taking : {A : Type 0} → Option Turns → World A → World A
 taking turns w = record w { turns = turns }
 
+-- the talk, but that the robots of its world take these turns
 abbrev pub in_turns : {A : Type 0} → Option Turns → Talk A → Talk A
 in_turns turns s = record { world = taking turns s.world; clients = s.clients }

@@ -28,7 +28,7 @@ abbrev pub Comes : Option ℕ → Fleet Global → Act → Option (Chapter Globa
 Comes roll s act None old new t = (text : List ℕ) × Does roll s act text t × IsAdded old new text × (beginning t.talk.world ≡ beginning s.talk.world)
 Comes roll s act (Some chapter) old new t = Wants roll s act × Hands s.talk (Some chapter) t.talk × (t.met ≡ s.met) × IsKept old new
 
--- that a chapter was handed out
+-- the line that a chapter was handed out, under the mark
 abbrev pub handed_text : {A : Type 0} → Option (List ℕ) → ChapterView A → List ℕ
 handed_text mark c = marked mark (chapter_line c.number (length c.history.entries))
 

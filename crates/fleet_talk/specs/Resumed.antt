@@ -71,7 +71,7 @@ laws_after kit d o = cut_laws (length o.robots) (if unwrap_or d.south (has_stamp
 abbrev pub world_after : {A : Type 0} → KitLaws → Floor → Draft → ChapterView A → World A
 world_after kit m d c = reopened_world m c.number c.history (limits_after d c.history.opening) (laws_after kit d c.history.opening)
 
--- that fleet: its clients did nothing yet
+-- the fleet that goes on from a chapter: its clients did nothing yet
 abbrev pub resumed : {A : Type 0} → KitLaws → Floor → Draft → ChapterView A → Talk A
 resumed kit m d c = quiet_talk (world_after kit m d c)
 
@@ -94,7 +94,7 @@ IsDoorFault w door (fault.Errand x) = (d : Door) × (door ≡ Ok d) × Waits w x
 IsDoorFault w door (fault.Chapter reopen_fault.NoMemory) = Unit {0}
 IsDoorFault w door other = ⊥
 
--- and that is not roomy for n robots
+-- an unfinished errand goes to a floor cell that is not roomy for n robots
 pub record WaitsUnroomy {A : Type 0} (n : ℕ) (w : World A) (x : UnroomyErrand) : Type 0 where
   pub waits : Waits w x
   pub floor : IsFloor w.floor x.cell
@@ -164,7 +164,7 @@ pub record LetsIn (on : Terms) (c : ChapterView Global) (cells : List Bool) : Ty
 abbrev pub resumed_in : Terms → ChapterView Global → Option Turns → Talk Global
 resumed_in on c turns = in_turns turns (resumed on.kit on.floor on.head c)
 
--- they are those of the manner that is asked for: none where it is the plain one
+-- the turns are those of the manner that is asked for: none where it is the plain one
 abbrev pub TakesOn : Terms → ChapterView Global → Option Turns → Type 0
 TakesOn on c turns = AreTaken on.settings.manner (world_after on.kit on.floor on.head c) turns
 

@@ -22,8 +22,10 @@ pub record IsKept (old new : Pen) : Type 0 where
   pub out : new.out.items ≡ old.out.items
   pub settings : new.settings ≡ old.settings
 
+-- that the line is a bad one, under its mark
 abbrev pub bad_said : Line → List ℕ
 bad_said line = marked (under line.mark) (bad_line line.number)
 
+-- the end of the line's answer under its mark, where that is to be said
 abbrev pub end_said : Settings → Line → List ℕ
 end_said settings line = if settings.marks then marked (under line.mark) (end_line line.number) else []

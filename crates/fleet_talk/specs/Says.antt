@@ -16,6 +16,7 @@ abbrev pub marked : Option (List ℕ) → List ℕ → List ℕ
 marked None text = text
 marked (Some mark) text = marked_from mark true text
 
+-- the line that ends the answer to the line of this number
 abbrev pub end_line : ℕ → List ℕ
 end_line number = codes ". " ++ decimal number ++ codes "\n"
 

@@ -53,7 +53,7 @@ open_line client e =
     codes "open " ++ (decimal client ++ (codes " number " ++ (decimal e.number ++ (codes " robot " ++ (decimal e.robot
     ++ (codes " cell " ++ (decimal e.cell ++ (codes " place " ++ (decimal e.place ++ codes "\n")))))))))
 
--- how many they are
+-- how many open errands there are
 abbrev pub open_end : ℕ → ℕ → List ℕ
 open_end client count = codes "open " ++ (decimal client ++ (codes " end " ++ (decimal count ++ codes "\n")))
 
@@ -63,14 +63,17 @@ open_text client errands = flat_map (open_line client) errands ++ open_end clien
 
 -- ---- a look
 
+-- the robot that has waited longest; idle where no robot waits
 abbrev pub eldest_text : Option ℕ → List ℕ
 eldest_text None = codes " idle"
 eldest_text (Some robot) = codes " busy eldest " ++ decimal robot
 
+-- after how many ticks the fleet is idle if nothing is ordered; nothing where that is not known
 abbrev pub within_text : Option ℕ → List ℕ
 within_text None = []
 within_text (Some ticks) = codes " within " ++ decimal ticks
 
+-- the cell next to the eldest in the full dead end before which it stands; nothing where it stands before none
 abbrev pub blocked_text : Option ℕ → List ℕ
 blocked_text None = []
 blocked_text (Some cell) = codes " blocked " ++ decimal cell
@@ -79,6 +82,6 @@ blocked_text (Some cell) = codes " blocked " ++ decimal cell
 abbrev pub standing_text : Standing → List ℕ
 standing_text s = codes "look tick " ++ decimal s.tick ++ codes " chapter " ++ decimal s.chapter ++ codes " entries " ++ decimal s.entries
 
--- then who has waited longest, within how many ticks all is done, before which full dead end it stands, and the cells
+-- all of a look: who has waited longest, when all is done, before which full dead end it stands, and the robots' cells
 abbrev pub look_line : Standing → List ℕ → List ℕ
 look_line s cells = standing_text s ++ eldest_text s.eldest ++ within_text s.within ++ blocked_text s.blocked ++ codes " at" ++ place_text cells ++ codes "\n"

@@ -6,6 +6,7 @@ use Rattle.fleet_text.specs.declared.input.InputFault.{InputFault}
 use Rattle.fleet_text.specs.declared.input.InputFault.TheVariants as input_fault
 use Rattle.fleet_text.specs.Output.{map_fault_text, open_fault_text, trace_fault_text}
 
+-- what is wrong, in the words of the error writer
 abbrev pub complaint_text : Complaint → List ℕ
 complaint_text complaint.File = codes "file"
 complaint_text (complaint.Map fault) = codes "map " ++ map_fault_text fault
@@ -16,9 +17,11 @@ complaint_text (complaint.Trace fault) = codes "trace " ++ trace_fault_text faul
 complaint_text complaint.Memory = codes "memory"
 complaint_text complaint.Limit = codes "limit"
 
+-- the whole line that the error writer is told
 abbrev pub complaint_line : Complaint → List ℕ
 complaint_line c = codes "errands: " ++ complaint_text c ++ codes "\n"
 
+-- the status with which a program ends over a complaint, 3 to 8
 abbrev pub status_of : Complaint → ℕ
 status_of complaint.File = 3
 status_of (complaint.Map fault) = 4

@@ -7,10 +7,12 @@ use Rattle.fleet_hooks.specs.declared.law.TieLaw.{TieLaw}
 use Rattle.fleet_text.specs.declared.kit.HookKit.{HookKit}
 use Rattle.fleet_script.specs.Script.{Plan}
 
+-- the laws of the two sets of closures: the plain ones, and those that rank the south first
 pub record KitLaws : Type 0 where
   pub plain : HookLaws
   pub south : HookLaws
 
+-- the laws of the program's two sets of closures
 abbrev pub kit_laws : {A f g h : Type 0} {F : f → Type 0} {G : g → Type 0} {H : h → Type 0} {k l m : _} → HookKit A f g h F G H k l m → KitLaws
 kit_laws kit = record { plain = laws_of kit.plain; south = laws_of kit.south }
 

@@ -9,10 +9,12 @@ use Rattle.fleet_bridge.specs.Bridge.{IsFirstBridge}
 abbrev pub Ends : Type 0
 Ends = ℕ × ℕ
 
+-- the ends of the first bridge, or that there is none
 abbrev pub bridge_text : Option Ends → List ℕ
 bridge_text None = codes "bridgeless"
 bridge_text (Some ends) = codes "bridge " ++ decimal ends.0 ++ codes " " ++ decimal ends.1
 
+-- four lines: the sides, how many cells are floor, how many edges there are, and the bridge
 abbrev pub map_lines : ℕ → ℕ → ℕ → ℕ → Option Ends → List ℕ
 map_lines height width floor edges bridge =
     codes "size " ++ decimal height ++ codes " " ++ decimal width ++ codes "\n"

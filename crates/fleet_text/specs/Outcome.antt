@@ -5,6 +5,7 @@ use Rattle.fleet_map.specs.declared.fault.MapFault.TheVariants as map_fault
 use Rattle.fleet_text.specs.declared.said.Complaint.{Complaint}
 use Rattle.fleet_text.specs.Complaint.{complaint_line, status_of}
 
+-- the text for the output, the status, and the text for the error writer
 pub record Outcome : Type 0 where
   pub output : List ℕ
   pub status : ℕ

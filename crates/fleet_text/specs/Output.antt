@@ -36,19 +36,23 @@ abbrev pub answer_text : Option ℕ → Verdict → List ℕ
 answer_text (Some code) v = codes "refused " ++ decimal code ++ codes " " ++ verdict_name v
 answer_text None v = done_text v
 
+-- a verdict: that the order was carried out, or the number and the name of the refusal
 abbrev pub verdict_text : Verdict → List ℕ
 verdict_text v = answer_text (refusal_code v) v
 
+-- why no order was taken, by number and name
 abbrev pub take_fault_text : TakeFault → List ℕ
 take_fault_text take_fault.MailboxFull = codes "1 mailbox-full"
 take_fault_text take_fault.ChapterFull = codes "2 chapter-full"
 take_fault_text take_fault.NoMemory = codes "3 no-memory"
 
+-- why there was no tick, by number and name
 abbrev pub tick_fault_text : TickFault → List ℕ
 tick_fault_text tick_fault.ClockSpent = codes "1 clock-spent"
 tick_fault_text tick_fault.ChapterFull = codes "2 chapter-full"
 tick_fault_text tick_fault.NoMemory = codes "3 no-memory"
 
+-- why a robot was not shut, by number and name
 abbrev pub shut_fault_text : ShutFault → List ℕ
 shut_fault_text shut_fault.NoRobot = codes "1 no-robot"
 shut_fault_text shut_fault.Already = codes "2 already"
@@ -65,13 +69,16 @@ notice_text (notice.Arrived seq number robot cell tick stamp) =
 abbrev pub place_text : List ℕ → List ℕ
 place_text cells = flat_map (λ cell. codes " " ++ decimal cell) cells
 
+-- the line of an arrival on the cell
 abbrev pub arrival_line : Arrival → ℕ → List ℕ
 arrival_line a cell =
     codes "arrived robot " ++ decimal a.robot ++ codes " client " ++ decimal a.client ++ codes " number " ++ decimal a.number ++ codes " cell " ++ decimal cell ++ codes " stamp " ++ decimal a.stamp ++ codes "\n"
 
+-- the line of an arrival in a tick to these cells
 abbrev pub arrival_text : List ℕ → Arrival → List ℕ
 arrival_text to a = arrival_line a (slice_index to a.robot)
 
+-- the line of a robot's farewell
 abbrev pub farewell_text : ℕ → ℕ → List ℕ
 farewell_text robot stamp = codes "farewell robot " ++ decimal robot ++ codes " stamp " ++ decimal stamp ++ codes "\n"
 
@@ -85,6 +92,7 @@ tick_text tick (Some (entry.Tick to arrived farewells)) =
     tick_line tick to ++ flat_map (arrival_text to) arrived ++ flat_map (λ bye. farewell_text bye.robot bye.stamp) farewells
 tick_text tick _ = []
 
+-- the line of the farewell that a shut makes at once; nothing where the robot still has errands
 abbrev pub parting_text : ℕ → Option ℕ → List ℕ
 parting_text robot None = []
 parting_text robot (Some stamp) = farewell_text robot stamp
@@ -93,9 +101,11 @@ parting_text robot (Some stamp) = farewell_text robot stamp
 abbrev pub posted_line : ℕ → ℕ → List ℕ
 posted_line c number = codes "posted " ++ decimal c ++ codes " " ++ decimal number ++ codes "\n"
 
+-- client c's lane has no room for an order
 abbrev pub lane_full_line : ℕ → List ℕ
 lane_full_line c = codes "lane-full " ++ decimal c ++ codes "\n"
 
+-- there is no client c
 abbrev pub no_client_line : ℕ → List ℕ
 no_client_line c = codes "no-client " ++ decimal c ++ codes "\n"
 
@@ -103,9 +113,11 @@ no_client_line c = codes "no-client " ++ decimal c ++ codes "\n"
 abbrev pub notice_line : ℕ → Notice → List ℕ
 notice_line c notice = codes "collected " ++ decimal c ++ codes " " ++ notice_text notice ++ codes "\n"
 
+-- there was no tick
 abbrev pub tick_refused_line : TickFault → List ℕ
 tick_refused_line fault = codes "tick-refused " ++ tick_fault_text fault ++ codes "\n"
 
+-- the robot was not shut
 abbrev pub shut_refused_line : ℕ → ShutFault → List ℕ
 shut_refused_line robot fault = codes "shut-refused " ++ decimal robot ++ codes " " ++ shut_fault_text fault ++ codes "\n"
 
@@ -147,6 +159,7 @@ run_text (event ∷ events) (reply ∷ replies) entries = event_text event reply
 
 -- ---- faults, as the error writer names them
 
+-- what is wrong with a map: lines are counted from 1, rows and columns from 0
 abbrev pub map_fault_text : MapFault → List ℕ
 map_fault_text (map_fault.Header line) = codes "header " ++ decimal line
 map_fault_text map_fault.Size = codes "size"
@@ -155,6 +168,7 @@ map_fault_text (map_fault.Cell row col) = codes "cell " ++ decimal row ++ codes 
 map_fault_text (map_fault.Trailing line) = codes "trailing " ++ decimal line
 map_fault_text map_fault.NoMemory = codes "memory"
 
+-- why a fleet is not opened, by number and name, without the robots at fault
 abbrev pub open_fault_text : OpenFault → List ℕ
 open_fault_text open_fault.Limits = codes "1 limits"
 open_fault_text open_fault.NoRobots = codes "2 no-robots"
@@ -163,6 +177,7 @@ open_fault_text (open_fault.Shared i j) = codes "4 shared"
 open_fault_text open_fault.Hooks = codes "5 hooks"
 open_fault_text open_fault.NoMemory = codes "6 no-memory"
 
+-- why a text is no trace, by number and name
 abbrev pub trace_fault_text : TraceFault → List ℕ
 trace_fault_text trace_fault.NotJson = codes "1 not-json"
 trace_fault_text trace_fault.Version = codes "2 version"

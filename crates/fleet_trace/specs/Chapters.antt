@@ -39,7 +39,7 @@ pub record IsUnread (texts : List (List ℕ)) (number : ℕ) (f : TraceFault) : 
 abbrev pub IsEarly : {A : Type 0} → History A → Type 0
 IsEarly h = h.opening.tick + length h.entries < 2 ^ 63
 
--- it is legal on the map, and its clock stays below 2^63
+-- the history is legal on the map, and its clock stays below 2^63
 pub record IsSound {A : Type 0} (m : Floor) (h : History A) : Type 0 where
   pub early : IsEarly h
   pub legal : IsLegal m h

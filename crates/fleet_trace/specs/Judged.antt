@@ -111,6 +111,7 @@ JudgedBy {A} m xs s e rule = (h : History A) → IsOf m xs s h → MatchOption r
 
 -- ---- openings that differ in the clock and the waits alone
 
+-- all but the clock and the waits is the same in both openings
 pub record AreAlike {A : Type 0} (o p : Opening A) : Type 0 where
   pub queue : p.queue ≡ o.queue
   pub life : p.life ≡ o.life

@@ -28,13 +28,15 @@ pub record IsFirstUntold (v : Version) (ds : List Data) (number : ℕ) : Type 0 
   pub told : all_in (entry_in {A = Global} v) before ≢ None
   pub untold : entry_in {A = Global} v value ≡ None
 
--- what is told under each of these keys
+-- the number of the chapter, as told under its key; `None` where that tells none
 abbrev pub chapter_under : Data → Option ℕ
 chapter_under d = option_and_then count_in (get (codes "chapter") d)
 
+-- the opening, as told under its key; `None` where that tells none
 abbrev pub opening_under : Data → Option (Opening Global)
 opening_under d = option_and_then opening_in (get (codes "opening") d)
 
+-- the values of the entries, under their key; `None` where that is no array
 abbrev pub entries_under : Data → Option (List Data)
 entries_under d = option_and_then items_in (get (codes "entries") d)
 

@@ -14,19 +14,23 @@ use Rattle.fleet_trace.specs.declared.part.OpeningPart.TheVariants.{Robots, Clie
 abbrev pub IsWithin : ℕ → ℕ → ℕ → Type 0
 IsWithin least greatest n = (least ≤ n) × (n ≤ greatest)
 
--- the numbers of robots, of clients, of errands that a robot may have, and of those that a client may have accepted
+-- there are 1 to 512 robots
 abbrev pub HasRobots : {A : Type 0} → Opening A → Type 0
 HasRobots o = IsWithin 1 512 (length o.robots)
 
+-- there are 1 to 64 clients
 abbrev pub HasClients : {A : Type 0} → Opening A → Type 0
 HasClients o = IsWithin 1 64 (length o.clients)
 
+-- a robot may have 1 to 65,536 errands
 abbrev pub HasQueue : {A : Type 0} → Opening A → Type 0
 HasQueue o = IsWithin 1 65536 o.queue
 
+-- a client may have 1 to 2^40 errands accepted
 abbrev pub HasLife : {A : Type 0} → Opening A → Type 0
 HasLife o = IsWithin 1 (2 ^ 40) o.life
 
+-- all four are in their ranges
 abbrev pub HasNumbers : {A : Type 0} → Opening A → Type 0
 HasNumbers o = HasRobots o × HasClients o × HasQueue o × HasLife o
 

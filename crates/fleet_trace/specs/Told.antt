@@ -23,10 +23,12 @@ use Rattle.fleet_trace.specs.Trace.{Trace}
 
 -- ---- lists, words, numbers
 
+-- the items of an array, in order
 abbrev pub list_of : Items → List Data
 list_of no_items = []
 list_of (item d ds) = d ∷ list_of ds
 
+-- the items of an array; `None` of a value that is none
 abbrev pub items_in : Data → Option (List Data)
 items_in (array ds) = Some (list_of ds)
 items_in null = None
@@ -52,6 +54,7 @@ long_in d = option_and_then as_u64 (as_number d)
 abbrev pub count_in : Data → Option ℕ
 count_in d = option_and_then (λ n. if nat_lt n (2 ^ 32) then Some n else None) (long_in d)
 
+-- whether there is a text, and it is this one
 abbrev pub is_text : List ℕ → Option (List ℕ) → Bool
 is_text letters None = false
 is_text letters (Some text) = bytes_eq text letters
@@ -60,6 +63,7 @@ is_text letters (Some text) = bytes_eq text letters
 abbrev pub is_word : List ℕ → Data → Bool
 is_word letters d = is_text letters (as_str d)
 
+-- how many members there are
 abbrev pub count_members : Members → ℕ
 count_members no_members = 0
 count_members (member k d ms) = count_members ms + 1
@@ -70,29 +74,36 @@ has_members n d = unwrap_or (option_map (λ ms. count_members ms == n) (as_objec
 
 -- ---- the opening
 
+-- what is known of a client, as four items tell it
 abbrev pub client_from : List Data → Option ClientState
 client_from (taken ∷ accepted ∷ noticed ∷ closed ∷ []) =
     option_and_then (λ t. option_and_then (λ a. option_and_then (λ n. option_map (λ b. record { taken = t; accepted = a; noticed = n; closed = b }) (as_bool closed)) (long_in noticed)) (long_in accepted)) (long_in taken)
 client_from _ = None
 
+-- what is known of a client, as an array tells it
 abbrev pub client_in : Data → Option ClientState
 client_in d = option_and_then client_from (items_in d)
 
+-- the errand that three items tell
 abbrev pub errand_from : List Data → Option Errand
 errand_from (client ∷ errand ∷ cell ∷ []) =
     option_and_then (λ c. option_and_then (λ n. option_map (λ x. record { client = c; number = n; cell = x }) (count_in cell)) (long_in errand)) (count_in client)
 errand_from _ = None
 
+-- the errand that an array tells
 abbrev pub errand_in : Data → Option Errand
 errand_in d = option_and_then errand_from (items_in d)
 
+-- the law of stamps that two items tell
 abbrev pub law_from : List Data → Option StampLaw
 law_from (low ∷ high ∷ []) = option_and_then (λ l. option_map (λ h. record { low = l; high = h }) (count_in high)) (count_in low)
 law_from _ = None
 
+-- the law of stamps that an array tells
 abbrev pub law_in : Data → Option StampLaw
 law_in d = option_and_then law_from (items_in d)
 
+-- the wait that a value tells: null tells that there is none; `None` of a value that tells nothing
 abbrev pub wait_in : Data → Option (Option ℕ)
 wait_in null = Some None
 wait_in (boolean b) = None
@@ -101,6 +112,7 @@ wait_in (string s) = None
 wait_in (array ds) = None
 wait_in (object ms) = None
 
+-- what is known of a robot, as six items tell it
 abbrev pub robot_from : {A : Type 0} → List Data → Option (RobotState A)
 robot_from (cell ∷ shut ∷ wait ∷ errands ∷ arrivals ∷ farewell ∷ []) =
     option_and_then (λ c. option_and_then (λ s. option_and_then (λ w. option_and_then (λ a. option_and_then (λ f.
@@ -108,9 +120,11 @@ robot_from (cell ∷ shut ∷ wait ∷ errands ∷ arrivals ∷ farewell ∷ [])
     (law_in farewell)) (law_in arrivals)) (wait_in wait)) (as_bool shut)) (count_in cell)
 robot_from _ = None
 
+-- what is known of a robot, as an array tells it
 abbrev pub robot_in : {A : Type 0} → Data → Option (RobotState A)
 robot_in d = option_and_then robot_from (items_in d)
 
+-- the opening that an object of exactly five members tells
 abbrev pub opening_in : {A : Type 0} → Data → Option (Opening A)
 opening_in d = if has_members 5 d then
     option_and_then (λ t. option_and_then (λ q. option_and_then (λ l. option_and_then (λ cs.
@@ -121,22 +135,27 @@ opening_in d = if has_members 5 d then
 
 -- ---- entries
 
+-- the order to close, where this is its word
 abbrev pub close_in : Data → Option Order
 close_in name = if is_word (codes "close") name then Some Close else None
 
+-- the withdrawal of an errand, where this is its word and the version has it
 abbrev pub withdraw_in : Version → Data → Data → Option Order
 withdraw_in v name errand = if has_withdrawal v && is_word (codes "withdraw") name then option_map (λ n. Withdraw n) (long_in errand) else None
 
+-- the order to go to a cell, where this is its word
 abbrev pub go_in : Data → Data → Data → Option Order
 go_in name robot cell =
     if is_word (codes "go") name then option_and_then (λ r. option_map (λ x. Go r x) (count_in cell)) (count_in robot) else None
 
+-- the order that one, two or three items tell
 abbrev pub order_from : Version → List Data → Option Order
 order_from v (name ∷ []) = close_in name
 order_from v (name ∷ a ∷ []) = withdraw_in v name a
 order_from v (name ∷ a ∷ b ∷ []) = go_in name a b
 order_from v _ = None
 
+-- the order that an array tells
 abbrev pub order_in : Version → Data → Option Order
 order_in v d = option_and_then (order_from v) (items_in d)
 
@@ -144,6 +163,7 @@ order_in v d = option_and_then (order_from v) (items_in d)
 abbrev pub refusal_in : Version → ℕ → Option Verdict
 refusal_in v code = if has_withdrawal v || nat_lt code 9 then refusal_of code else None
 
+-- the verdict that one or two items tell
 abbrev pub verdict_from : Version → List Data → Option Verdict
 verdict_from v (name ∷ []) =
     if is_word (codes "closed") name then Some verdict.Closed
@@ -153,35 +173,44 @@ verdict_from v (name ∷ a ∷ []) =
     else if is_word (codes "refused") name then option_and_then (refusal_in v) (long_in a) else None
 verdict_from v _ = None
 
+-- the verdict that an array tells
 abbrev pub verdict_in : Version → Data → Option Verdict
 verdict_in v d = option_and_then (verdict_from v) (items_in d)
 
+-- the arrival that four items tell
 abbrev pub arrival_from : List Data → Option Arrival
 arrival_from (robot ∷ client ∷ errand ∷ stamp ∷ []) =
     option_and_then (λ r. option_and_then (λ c. option_and_then (λ n. option_map (λ s. record { robot = r; client = c; number = n; stamp = s }) (count_in stamp)) (long_in errand)) (count_in client)) (count_in robot)
 arrival_from _ = None
 
+-- the arrival that an array tells
 abbrev pub arrival_in : Data → Option Arrival
 arrival_in d = option_and_then arrival_from (items_in d)
 
+-- the farewell that two items tell
 abbrev pub bye_from : List Data → Option Bye
 bye_from (robot ∷ stamp ∷ []) = option_and_then (λ r. option_map (λ s. record { robot = r; stamp = s }) (count_in stamp)) (count_in robot)
 bye_from _ = None
 
+-- the farewell that an array tells
 abbrev pub bye_in : Data → Option Bye
 bye_in d = option_and_then bye_from (items_in d)
 
+-- the take that the values of its client, its order and its verdict tell
 abbrev pub take_in : {A : Type 0} → Version → Data → Data → Data → Option (Entry A)
 take_in v client order answer =
     option_and_then (λ c. option_and_then (λ o. option_map (λ a. Take c o a) (verdict_in v answer)) (order_in v order)) (count_in client)
 
+-- the tick that the values of its cells, its arrivals and its farewells tell
 abbrev pub tick_in : {A : Type 0} → Data → Data → Data → Option (Entry A)
 tick_in to arrived farewells =
     option_and_then (λ cells. option_and_then (λ arrivals. option_map (λ leaving. Tick cells arrivals leaving) (list_in bye_in farewells)) (list_in arrival_in arrived)) (list_in count_in to)
 
+-- the shut of the robot that a value tells, with the farewell's stamp if there is one, where this is its word
 abbrev pub shut_in : {A : Type 0} → Data → Data → Option ℕ → Option (Entry A)
 shut_in name robot farewell = if is_word (codes "shut") name then option_map (λ r. Shut r farewell) (count_in robot) else None
 
+-- the entry that two, three or four items tell
 abbrev pub entry_from : {A : Type 0} → Version → List Data → Option (Entry A)
 entry_from v (name ∷ a ∷ []) = shut_in name a None
 entry_from v (name ∷ a ∷ b ∷ []) = option_and_then (λ stamp. shut_in name a (Some stamp)) (count_in b)
@@ -190,6 +219,7 @@ entry_from v (name ∷ a ∷ b ∷ c ∷ []) =
     else if is_word (codes "tick") name then tick_in a b c else None
 entry_from v _ = None
 
+-- the entry that an array tells
 abbrev pub entry_in : {A : Type 0} → Version → Data → Option (Entry A)
 entry_in v d = option_and_then (entry_from v) (items_in d)
 

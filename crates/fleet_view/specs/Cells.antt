@@ -10,21 +10,21 @@ use Rattle.fleet_trace.specs.Trace.{Trace}
 abbrev pub are_cells : ℕ → List ℕ → Bool
 are_cells n cells = list_all (λ cell. nat_lt cell n) cells
 
--- it has the cells of a robot's errands
+-- a map of n cells has those of a robot's errands
 abbrev pub are_errands_on : {A : Type 0} → ℕ → RobotState A → Bool
 are_errands_on n x = list_all (λ e. nat_lt e.cell n) x.errands
 
--- it has a robot's cell and those of its errands
+-- a map of n cells has a robot's cell and those of its errands
 abbrev pub is_robot_on : {A : Type 0} → ℕ → RobotState A → Bool
 is_robot_on n x = nat_lt x.cell n && are_errands_on n x
 
--- it has the cells of a tick; an order may be for any cell
+-- a map of n cells has those of a tick; an order may be for any cell
 abbrev pub is_entry_on : {A : Type 0} → ℕ → Entry A → Bool
 is_entry_on n (Tick to arrived farewells) = are_cells n to
 is_entry_on n (Take client order verdict) = true
 is_entry_on n (Shut robot farewell) = true
 
--- it has the cells of a trace's opening and ticks
+-- a map of n cells has those of a trace's opening and ticks
 abbrev pub is_trace_on : {A : Type 0} → ℕ → Trace A → Bool
 is_trace_on n t = list_all (is_robot_on n) t.history.opening.robots && list_all (is_entry_on n) t.history.entries
 

@@ -2,6 +2,7 @@
 use Rattle.std.specs.Prelude.{◌≡◌, ℕ, Bool, true, List, not, ◌==◌}
 use Rattle.std.specs.List.{list_all}
 
+-- whether the byte is another than `<`
 abbrev pub is_other : ℕ → Bool
 is_other b = not (b == 60)
 

@@ -15,9 +15,11 @@ point_text width cell = decimal (cell % width * 16) ++ codes " " ++ decimal (cel
 
 -- ---- the map
 
+-- whether the letter of a cell is floor: `.`, `G` or `S`
 abbrev pub is_floor_letter : ℕ → Bool
 is_floor_letter b = (b == 46) || (b == 71) || (b == 83)
 
+-- a square for the cell, unless its letter is floor
 abbrev pub wall_text : ℕ → ℕ → ℕ → List ℕ
 wall_text width cell letter = if is_floor_letter letter then [] else WALL.now ++ point_text width cell ++ codes "h16v16h-16z"
 
@@ -26,6 +28,7 @@ abbrev pub walls_from : ℕ → ℕ → List ℕ → List ℕ
 walls_from width cell [] = []
 walls_from width cell (letter ∷ letters) = wall_text width cell letter ++ walls_from width (cell + 1) letters
 
+-- the beginning of the picture, with its sides and its style
 abbrev pub head_text : ℕ → ℕ → List ℕ
 head_text height width =
     SVG_BEGIN.now ++ decimal (width * 16) ++ codes " " ++ decimal (height * 16) ++ SVG_SIZE.now ++ decimal (width * 16) ++ codes "\" height=\"" ++ decimal (height * 16) ++ SVG_STYLE.now
@@ -47,6 +50,7 @@ cells_in r ts = flat_map (λ t. cells_over r t.history.entries) ts
 abbrev pub arrives : ℕ → List Arrival → Bool
 arrives r arrived = list_any (λ a. a.robot == r) arrived
 
+-- the sign of a tick: 1 where the robot arrived in it, or else 0
 abbrev pub flag_text : Bool → List ℕ
 flag_text true = codes ";1"
 flag_text false = codes ";0"
@@ -58,6 +62,7 @@ flags_over r (Tick to arrived farewells ∷ es) = flag_text (arrives r arrived) 
 flags_over r (Take client order verdict ∷ es) = flags_over r es
 flags_over r (Shut robot farewell ∷ es) = flags_over r es
 
+-- a sign for each tick of the traces: whether the robot arrived in it
 abbrev pub flags_in : {A : Type 0} → ℕ → List (Trace A) → List ℕ
 flags_in r ts = flat_map (λ t. flags_over r t.history.entries) ts
 
@@ -73,6 +78,7 @@ goals_over width r (Tick to arrived farewells ∷ es) = goal_text width (slice_i
 goals_over width r (Take client order verdict ∷ es) = goals_over width r es
 goals_over width r (Shut robot farewell ∷ es) = goals_over width r es
 
+-- a square for each arrival of a robot in the traces
 abbrev pub goals_in : {A : Type 0} → ℕ → ℕ → List (Trace A) → List ℕ
 goals_in width r ts = flat_map (λ t. goals_over width r t.history.entries) ts
 
@@ -114,6 +120,7 @@ moving_text width r start cells flags =
 abbrev pub cell_behind : ℕ → ℕ → List ℕ → ℕ
 cell_behind tick start cells = slice_index (start ∷ cells) (min tick (length cells))
 
+-- a robot's shape that stands on the cell
 abbrev pub still_text : ℕ → ℕ → ℕ → List ℕ
 still_text width r cell = STILL.now ++ point_text width cell ++ STILL_END.now ++ disc_text r
 
@@ -132,6 +139,7 @@ abbrev pub robots_in : {A : Type 0} → List (Trace A) → List (RobotState A)
 robots_in [] = []
 robots_in (t ∷ ts) = t.history.opening.robots
 
+-- the walls of the map, as one path
 abbrev pub walls_text : Map → List ℕ
 walls_text m = WALLS.now ++ walls_from m.width 0 m.cells ++ WALLS_END.now
 

@@ -57,7 +57,7 @@ pub record IsPage (map : List ℕ) (texts : List (List ℕ)) (text : List ℕ) :
   pub told : AreOn floor texts traces
   pub page : IsJudgedPage floor traces text
 
--- their picture
+-- the picture of the map and the traces that these texts are
 pub record IsPicture (tick : Option ℕ) (map : List ℕ) (texts : List (List ℕ)) (text : List ℕ) : Type 0 where
   pub floor : Map
   pub read : map_of map ≡ Ok floor

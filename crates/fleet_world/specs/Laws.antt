@@ -15,6 +15,7 @@ pub record RingLaw {A : Type 0} (h : History A) (c : ℕ) (box : List Notice) (l
   pub taken : orders h c ≡ l.taken
   pub told : l.given ++ box ≡ notices h c
 
+-- each client has lists and a mailbox, and they and the history belong together
 pub record KeepsRings {A : Type 0} (s : State A) : Type 0 where
   pub list_count : length s.clients ≡ clients s.world.history
   pub box_count : length s.world.mailboxes ≡ clients s.world.history

@@ -31,6 +31,7 @@ lists_from h lanes outlets collected c = record {
 abbrev pub client_lists : {A : Type 0} → History A → List (List Order) → List (List Notice) → List (List Notice) → List Lists
 client_lists h lanes outlets collected = map (lists_from h lanes outlets collected) (range_with_len 0 (clients h))
 
+-- the lists of the clients of a world that was played
 abbrev pub lists_of : {A f g h : Type 0} {F : f → Type 0} {G : g → Type 0} {H : h → Type 0} {k l m : _} → Played A f g h F G H k l m → List Lists
 lists_of p = client_lists p.world.core.history (map (λ v. v.items) p.lanes.items) (map (λ v. v.items) p.outlets.items) (map (λ v. v.items) p.collected.items)
 

@@ -27,6 +27,7 @@ pub record Lists : Type 0 where
   pub given : List Notice
   pub collected : List Notice
 
+-- the lists of a client that did nothing yet
 abbrev pub no_lists : Lists
 no_lists = record { sent = []; taken = []; given = []; collected = [] }
 
@@ -38,18 +39,23 @@ lane l = drop (length l.taken) l.sent
 abbrev pub outlet : Lists → List Notice
 outlet l = drop (length l.collected) l.given
 
+-- the lists once the client sent one more order
 abbrev pub with_sent : Lists → Order → Lists
 with_sent l order = record l { sent = l.sent ++ order ∷ [] }
 
+-- the lists once one more of the client's orders was taken
 abbrev pub with_taken : Lists → Order → Lists
 with_taken l order = record l { taken = l.taken ++ order ∷ [] }
 
+-- the lists once the client was given one more notice
 abbrev pub with_given : Lists → Notice → Lists
 with_given l notice = record l { given = l.given ++ notice ∷ [] }
 
+-- the lists once the client collected one more notice
 abbrev pub with_collected : Lists → Notice → Lists
 with_collected l notice = record l { collected = l.collected ++ notice ∷ [] }
 
+-- a world, and the lists of its clients
 pub record State (A : Type 0) : Type 0 where
   pub world : World A
   -- by client
@@ -59,9 +65,11 @@ pub record State (A : Type 0) : Type 0 where
 abbrev pub state_of : {A : Type 0} → World A → List Lists → State A
 state_of w l = record { world = w; clients = l }
 
+-- the client's lists
 abbrev pub lists : {A : Type 0} → State A → ℕ → Lists
 lists s c = slice_index_or s.clients c no_lists
 
+-- the notices that wait in the client's mailbox, the oldest first
 abbrev pub mailbox : {A : Type 0} → State A → ℕ → List Notice
 mailbox s c = (pending s.world c).notices
 
@@ -71,9 +79,11 @@ with_lists w s c l = record { world = w; clients = slice_set s.clients c l }
 
 -- ---- steps
 
+-- there is a client of this number
 abbrev pub InRange : {A : Type 0} → State A → ℕ → Type 0
 InRange s c = c < clients s.world.history
 
+-- there is no client of this number
 abbrev pub IsNoClient : {A : Type 0} → State A → ℕ → Type 0
 IsNoClient s c = clients s.world.history ≤ c
 

@@ -24,38 +24,47 @@ pub record Waiting : Type 0 where
   pub lane : List Order
   pub outlet : List Notice
 
+-- of a client nothing waits
 abbrev pub none_waiting : Waiting
 none_waiting = record { lane = []; outlet = [] }
 
+-- what waits once the client sent one more order
 abbrev pub with_order : Waiting → Order → Waiting
 with_order w order = record { lane = w.lane ++ order ∷ []; outlet = w.outlet }
 
+-- what waits once the first order was taken
 abbrev pub without_order : Waiting → Waiting
 without_order w = record { lane = drop 1 w.lane; outlet = w.outlet }
 
+-- what waits once the client was given one more notice
 abbrev pub with_notice : Waiting → Notice → Waiting
 with_notice w notice = record { lane = w.lane; outlet = w.outlet ++ notice ∷ [] }
 
+-- what waits once the client collected the first notice
 abbrev pub without_notice : Waiting → Waiting
 without_notice w = record { lane = w.lane; outlet = drop 1 w.outlet }
 
 -- ---- a world and what waits of its clients
 
+-- a world, and what waits of its clients
 pub record Talk (A : Type 0) : Type 0 where
   pub world : World A
   -- by client
   pub clients : List Waiting
 
+-- the talk of a world and what waits of its clients
 abbrev pub talk_of : {A : Type 0} → World A → List Waiting → Talk A
 talk_of w l = record { world = w; clients = l }
 
+-- what waits of the client
 abbrev pub waiting : {A : Type 0} → Talk A → ℕ → Waiting
 waiting s c = slice_index_or s.clients c none_waiting
 
+-- the notices that wait in the client's mailbox, the oldest first
 abbrev pub mailbox : {A : Type 0} → Talk A → ℕ → List Notice
 mailbox s c = (pending s.world c).notices
 
--- the same with another world, and with what waits of one client
+-- the talk with another world, and with this waiting of one client
 abbrev pub with_waiting : {A : Type 0} → World A → Talk A → ℕ → Waiting → Talk A
 with_waiting w s c l = record { world = w; clients = slice_set s.clients c l }
 
@@ -73,9 +82,11 @@ next_talk s = record { world = next_world s.world; clients = s.clients }
 
 -- ---- steps
 
+-- there is a client of this number
 abbrev pub InRange : {A : Type 0} → Talk A → ℕ → Type 0
 InRange s c = c < clients s.world.history
 
+-- there is no client of this number
 abbrev pub IsNoClient : {A : Type 0} → Talk A → ℕ → Type 0
 IsNoClient s c = clients s.world.history ≤ c
 
@@ -128,6 +139,7 @@ TalkStep s _ _ t = ⊥
 
 -- ---- what a session keeps of a run
 
+-- what waits of a client that has these lists
 abbrev pub forget_lists : Lists → Waiting
 forget_lists l = record { lane = lane l; outlet = outlet l }
 

@@ -13,6 +13,7 @@ use Rattle.fleet_world.specs.Talk.{Talk, TalkStep, next_talk, talk_of}
 use Rattle.fleet_talk.specs.Acts.{NeedsRoom}
 use Rattle.fleet_talk.specs.Chapters.{ChapterView, IsSound, chapter_in}
 
+-- one thing that a fleet does, or says to a conversation
 pub data Act : Type 0 where
   -- an event is done, of which nothing is said
   did : Event → Reply → Act
@@ -46,5 +47,6 @@ abbrev pub meets_limit : Act → Bool
 meets_limit (did e reply) = is_limit_met reply
 meets_limit _ = false
 
+-- whether a limit was met in one of the acts
 abbrev pub met_by : List Act → Bool
 met_by acts = list_any meets_limit acts

@@ -25,7 +25,7 @@ pub data AnswersIn (to : ℕ) (text : List ℕ) (old new : Out) (left : Rest) : 
   now : Fits (text_at old to) (length text) → IsSaid old to text new → left ≡ Nothing → AnswersIn to text old new left
   later : (Fits (text_at old to) (length text) → ⊥) → new ≡ old → IsWaiting text left → AnswersIn to text old new left
 
--- the same of a stage on which this conversation speaks
+-- an answer is said on a stage to the conversation that speaks, or waits for room: what of it is left
 pub data Answers (k : ℕ) (sp : Speaker) (text : List ℕ) (s : Stage) (acts : List Act) (t : Stage) : Type 0 where
   at_once : Fits (text_at s.at.out k) (length text) → acts ≡ said k text ∷ [] → Went s.at acts t.at → t ≡ with_rest (with_at s t.at) k sp Nothing → Answers k sp text s acts t
   waits : (Fits (text_at s.at.out k) (length text) → ⊥) → acts ≡ [] → (left : Rest) → IsWaiting text left → t ≡ with_rest s k sp left → Answers k sp text s acts t

@@ -32,7 +32,7 @@ pub record Shuts (robot : ℕ) (text : List ℕ) (a : At) (acts : List Act) (b :
   pub step : StepsOn (Shut robot) reply a acts b
   pub is : text ≡ shut_text robot done
 
--- and that is answered
+-- a robot was shut, and what that came to is answered
 pub record ShutsOne (k : ℕ) (sp : Speaker) (mark : Option (List ℕ)) (robot : ℕ) (s : Stage) (acts : List Act) (t : Stage) : Type 0 where
   pub text : List ℕ
   pub first : List Act
@@ -58,6 +58,7 @@ pub data TurnsChapter (k : ℕ) (sp : Speaker) (mark : Option (List ℕ)) (s : S
   handed : HandsOut s.at true acts t.at → (left : Rest) → IsKeeping mark s.at.fleet.talk.world.number (length s.at.fleet.talk.world.history.entries) left → t ≡ with_rest (with_at s t.at) k sp left → TurnsChapter k sp mark s acts t
   last : IsLast s.at.fleet.talk.world → Answers k sp (marked mark chapter_refused_line) s acts t → TurnsChapter k sp mark s acts t
 
+-- what is done at what a line wants of the keeper
 abbrev pub Grants : ℕ → Speaker → Option (List ℕ) → Wanted → Stage → List Act → Stage → Type 0
 Grants k sp mark (wanted.Shut robot) s acts t = ShutsOne k sp mark robot s acts t
 Grants k sp mark wanted.Look s acts t = (text : List ℕ) × IsLook s.at.fleet.talk.world text × Answers k sp (marked mark text) s acts t

@@ -19,6 +19,7 @@ abbrev pub ShowsTurn : Bool → Stage → List Act → Stage → Type 0
 ShowsTurn true s acts t = Shows s.speakers s.at acts t.at × (t ≡ with_at s t.at)
 ShowsTurn false s acts t = (acts ≡ []) × (t ≡ record s { is_over = true })
 
+-- a turn is made, and shown if it was
 pub record MakesTurn (s : Stage) (acts : List Act) (t : Stage) : Type 0 where
   pub reply : Reply
   pub first : List Act

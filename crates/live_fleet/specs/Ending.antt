@@ -27,6 +27,7 @@ stays_at_end _ = false
 abbrev pub rest_at_end : Rest → Rest
 rest_at_end left = if stays_at_end left then left else rest.Ending
 
+-- a conversation once the fleet has ended
 abbrev pub at_end : Speaker → Speaker
 at_end sp = resting sp (rest_at_end sp.rest)
 

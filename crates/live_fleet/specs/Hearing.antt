@@ -30,6 +30,7 @@ use Rattle.live_fleet.specs.Sessions.{mark_len, session_line, since_text, standi
 
 -- ---- the open errands of a client
 
+-- the rows are the client's open errands
 abbrev pub AreErrands : ℕ → History Global → Rows → Type 0
 AreErrands client h (Errands c errands) = (c ≡ client) × (errands.items ≡ open_errands h client)
 AreErrands client h _ = ⊥
@@ -49,12 +50,15 @@ pub record Opens (k : ℕ) (sp : Speaker) (mark : Option (List ℕ)) (client : �
 
 -- ---- a line
 
+-- a post is done, if the conversation speaks for the client
 abbrev pub HearsPost : ℕ → Speaker → Option (List ℕ) → ℕ → Order → Stage → List Act → Stage → Type 0
 HearsPost k sp mark client order s acts t = IfOwn (is_own sp.clients s.clients client) (Posts k sp mark client order s acts t) k sp mark client s acts t
 
+-- a post to a cell that is not roomy is refused, if the conversation speaks for the client
 abbrev pub HearsNoRoom : ℕ → Speaker → Option (List ℕ) → ℕ → Stage → List Act → Stage → Type 0
 HearsNoRoom k sp mark client s acts t = IfOwn (is_own sp.clients s.clients client) (Answers k sp (marked mark (no_room_line client)) s acts t) k sp mark client s acts t
 
+-- the open errands are listed, if the conversation speaks for the client
 abbrev pub HearsOpen : ℕ → Speaker → Option (List ℕ) → ℕ → Stage → List Act → Stage → Type 0
 HearsOpen k sp mark client s acts t = IfOwn (is_own sp.clients s.clients client) (Opens k sp mark client s acts t) k sp mark client s acts t
 
@@ -62,7 +66,7 @@ HearsOpen k sp mark client s acts t = IfOwn (is_own sp.clients s.clients client)
 abbrev pub HearsSession : ℕ → Speaker → Option (List ℕ) → ℕ → Stage → List Act → Stage → Type 0
 HearsSession k sp mark client s acts t = IfOwn (is_own sp.clients s.clients client) (Answers k sp (marked mark (session_line (standing_at s.notes s.at.fleet.recalls client))) s acts t) k sp mark client s acts t
 
--- or once more what it was told after the notice of this number
+-- a client that comes again is told once more what it was told after the notice of this number
 abbrev pub HearsSince : ℕ → Speaker → Option (List ℕ) → (client seq : ℕ) → Stage → List Act → Stage → Type 0
 HearsSince k sp mark client seq s acts t = IfOwn (is_own sp.clients s.clients client) (Answers k sp (marked mark (since_text s.at.fleet.recalls (mark_len mark) client seq)) s acts t) k sp mark client s acts t
 
@@ -86,6 +90,7 @@ Obeys k sp line demand.Bad s acts t = Answers k sp (marked line.mark (bad_line l
 abbrev pub next_number : ℕ → ℕ
 next_number lines = if nat_lt lines 18446744073709551615 then lines + 1 else lines
 
+-- a conversation with one more line
 abbrev pub numbered : Speaker → Speaker
 numbered sp = record sp { lines = next_number sp.lines }
 

@@ -24,16 +24,20 @@ facts_of w = record {
   lane = w.limits.lane;
 }
 
+-- the version, the robots, the clients, and the sides of the map
 abbrev pub size_text : Facts → List ℕ
 size_text x =
     codes "hello version 0.1.0 robots " ++ (decimal x.robots ++ (codes " clients " ++ (decimal x.clients ++ (codes " width " ++ (decimal x.width ++ (codes " height " ++ decimal x.height))))))
 
+-- the chapter, and the ticks made
 abbrev pub progress_text : Facts → List ℕ
 progress_text x = codes " chapter " ++ (decimal x.chapter ++ (codes " tick " ++ decimal x.tick))
 
+-- the limits that a client meets, and the line's end
 abbrev pub limits_text : Facts → List ℕ
 limits_text x = codes " queue " ++ (decimal x.queue ++ (codes " mailbox " ++ (decimal x.mailbox ++ (codes " lane " ++ (decimal x.lane ++ codes "\n")))))
 
+-- the whole line
 abbrev pub hello_line : Facts → List ℕ
 hello_line x = size_text x ++ progress_text x ++ limits_text x
 

@@ -60,7 +60,7 @@ pub record IsSafe (turns : Option Turns) (m : Floor) (h : History Global) : Type
   pub bounded : turns ≡ None → AreRoomy m h → KeepsBound m (start h.opening) → WaitsAreBounded m h
   pub served : ServesInTurns turns m h
 
--- so is each history that was handed out, on the map of the fleet
+-- each history that was handed out is safe, on the map of the fleet
 abbrev pub EachIsSafe : Type 0
 EachIsSafe =
     (s t : Stage) (events : List Heard) (acts : List Act) → Plays s events acts t → AllByRecursion (λ x. IsSafe s.at.fleet.talk.world.turns s.at.fleet.talk.world.floor x.history) (chapters_of acts)
@@ -81,15 +81,16 @@ IsToldRight whose (told to client notice) = SpeaksFor whose to client
 IsToldRight whose (did (Collect client) (Collected notice)) = ⊥
 IsToldRight whose _ = Unit {0}
 
--- so are all, and conversations speak for the same clients as before
+-- all acts tell notices right, and conversations speak for the same clients as before
 abbrev pub EachIsToldRight : Type 0
 EachIsToldRight = (s t : Stage) (events : List Heard) (acts : List Act) → Plays s events acts t → AllByRecursion (IsToldRight (clients_in s.speakers)) acts × (clients_in t.speakers ≡ clients_in s.speakers)
 
--- the notices of a client that acts tell, in order
+-- the notice of a client that an act tells, if it tells one
 abbrev pub notice_told : ℕ → Act → List Notice
 notice_told c (told to client notice) = if client == c then notice ∷ [] else []
 notice_told c _ = []
 
+-- the notices of a client that acts tell, in order
 abbrev pub notices_told : ℕ → List Act → List Notice
 notices_told c acts = flat_map (notice_told c) acts
 
@@ -123,7 +124,7 @@ pub record AreKept (c : ℕ) (r : Recalls) (since : List Notice) (t : Recalls) :
   pub kept : (recall_of t c).notices ≡ last_of r.most ((recall_of r c).notices ++ since)
   pub count : (recall_of t c).told ≡ last_seq (recall_of r c).told since
 
--- so it is, whatever a fleet hears
+-- what can be told again is kept so, whatever a fleet hears
 abbrev pub EachIsKept : Type 0
 EachIsKept = (s t : Stage) (events : List Heard) (acts : List Act) → Plays s events acts t → (c : ℕ) → IsRecalled s.at.fleet.recalls c → AreKept c s.at.fleet.recalls (notices_told c acts) t.at.fleet.recalls
 
@@ -132,13 +133,13 @@ pub record AreNumberedOn (c : ℕ) (f : FleetView) : Type 0 where
   pub seqs : map seq_of (left_of f.talk c) ≡ numbers_behind (recall_of f.recalls c).told (length (left_of f.talk c))
   pub all : (recall_of f.recalls c).told + length (left_of f.talk c) ≡ noticed_count f.talk.world.history c
 
--- it stays so, and as many more were told as notices were
+-- notices stay numbered on, and as many more were told as the acts tell
 abbrev pub EachIsCounted : Type 0
 EachIsCounted =
     (s t : Stage) (events : List Heard) (acts : List Act) → Plays s events acts t → (c : ℕ) → IsKnown s.at.fleet.talk c → IsRecalled s.at.fleet.recalls c → c < clients s.at.fleet.talk.world.history → AreNumberedOn c s.at.fleet
     → AreNumberedOn c t.at.fleet × ((recall_of t.at.fleet.recalls c).told ≡ (recall_of s.at.fleet.recalls c).told + length (notices_told c acts))
 
--- so it is at the beginning, where nothing waits
+-- notices are numbered on at the beginning, where nothing waits
 abbrev pub EachBeginsCounted : Type 0
 EachBeginsCounted = (f : FleetView) (r : Recalls) (c : ℕ) → f.talk.world.history.entries ≡ [] → left_of f.talk c ≡ [] → c < clients f.talk.world.history → AreBegun f.talk.world.history r f.recalls → AreNumberedOn c f
 
@@ -152,7 +153,7 @@ EachFirstIsInTime =
     (s t : Stage) (events : List Heard) (acts : List Act) → Plays s events acts t → (c : ℕ) → IsKnown s.at.fleet.talk c → IsRecalled s.at.fleet.recalls c → c < clients s.at.fleet.talk.world.history → AreNumberedOn c s.at.fleet
     → AreInTime (recall_of s.at.fleet.recalls c) → AreInTime (recall_of t.at.fleet.recalls c) × (first_of (recall_of t.at.fleet.recalls c) ≤ (recall_of t.at.fleet.recalls c).told + 1)
 
--- so it is at the beginning, if what is kept has no number above those that were noticed
+-- the numbers are in time at the beginning, if what is kept has none above those that were noticed
 abbrev pub EachBeginsInTime : Type 0
 EachBeginsInTime = (h : History Global) (r t : Recalls) (c : ℕ) → c < clients h → AreBegun h r t → AllByRecursion (λ n. seq_of n ≤ (client_at h c).noticed) (recall_of r c).notices → AreInTime (recall_of t c)
 
@@ -176,7 +177,7 @@ pub record IsShownLast (acts : List Act) (s : Talk Global) : Type 0 where
   pub tells : AllByRecursion IsUnsaid first
   pub shows : AllByRecursion (IsShown (place_line s)) last
 
--- so is each turn: its line comes after its notices
+-- each turn is shown last: its line comes after its notices
 abbrev pub EachTurnIsShownLast : Type 0
 EachTurnIsShownLast = (s t : Stage) (acts : List Act) → Does s turn acts t → IsShownLast acts t.at.fleet.talk
 

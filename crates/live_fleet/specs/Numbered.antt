@@ -29,6 +29,7 @@ is_let_in cells order = true
 abbrev pub not_next_line : ℕ → ℕ → List ℕ
 not_next_line client next = codes "post-refused " ++ (decimal client ++ (codes " 4 next " ++ (decimal next ++ codes "\n")))
 
+-- an order is refused that is not its client's next one
 abbrev pub RefusesNumber : ℕ → Speaker → Option (List ℕ) → ℕ → Stage → List Act → Stage → Type 0
 RefusesNumber k sp mark client s acts t = Answers k sp (marked mark (not_next_line client (next_order s.notes client))) s acts t
 
@@ -40,10 +41,11 @@ RefusesCell k sp mark client s acts t = Answers k sp (marked mark (no_room_line 
 abbrev pub PostsLetIn : ℕ → Speaker → Option (List ℕ) → ℕ → Order → Stage → List Act → Stage → Type 0
 PostsLetIn k sp mark client order s acts t = MatchBool (is_let_in s.door.refused order) (Posts k sp mark client order s acts t) (RefusesCell k sp mark client s acts t)
 
--- and before that, if its number is the one of its client's next order
+-- an order is posted if its number is that of its client's next one, and posts to its cell are not refused
 abbrev pub PostsAs : ℕ → Speaker → Option (List ℕ) → Numbered → Stage → List Act → Stage → Type 0
 PostsAs k sp mark post s acts t =
     MatchBool (next_order s.notes post.client == post.number) (PostsLetIn k sp mark post.client post.order s acts t) (RefusesNumber k sp mark post.client s acts t)
 
+-- a numbered post is done, if the conversation speaks for the client
 abbrev pub HearsPostAs : ℕ → Speaker → Option (List ℕ) → Numbered → Stage → List Act → Stage → Type 0
 HearsPostAs k sp mark post s acts t = IfOwn (is_own sp.clients s.clients post.client) (PostsAs k sp mark post s acts t) k sp mark post.client s acts t

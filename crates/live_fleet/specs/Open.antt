@@ -13,6 +13,7 @@ is_open (rest.Keeping mark chapter entries) = true
 is_open rest.Ending = true
 is_open rest.Ended = false
 
+-- whether nothing is left of an answer
 abbrev pub is_done : Rest → Bool
 is_done rest.Nothing = true
 is_done _ = false
@@ -22,6 +23,7 @@ abbrev pub turns_left : Rest → Option ℕ
 turns_left (rest.Ticking mark left) = Some left
 turns_left _ = None
 
+-- whether the fleet has ended, and what is left is still to be told
 abbrev pub is_ending : Rest → Bool
 is_ending rest.Ending = true
 is_ending _ = false

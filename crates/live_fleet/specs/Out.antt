@@ -16,6 +16,7 @@ pub record Out : Type 0 where
 abbrev pub out_of : Outboxes → Out
 out_of o = record { texts = map (λ t. t.items) o.texts.items; chapters = map chapter_shown o.chapters.items }
 
+-- the text that waits for the reader of a conversation; empty of one that there is not
 abbrev pub text_at : Out → ℕ → List ℕ
 text_at o to = slice_index_or o.texts to []
 
@@ -29,6 +30,7 @@ told_by k _ = []
 abbrev pub told_to : ℕ → List Act → List ℕ
 told_to k acts = flat_map (told_by k) acts
 
+-- the chapter that an act hands out, if it hands one out
 abbrev pub handed_by : Act → List (ChapterView Global)
 handed_by (handed c) = c ∷ []
 handed_by _ = []

@@ -20,6 +20,7 @@ pub record DoorView : Type 0 where
   pub refused : List Bool
   pub roominess : List ℕ
 
+-- a door without where its lists lie in memory
 abbrev pub door_shown : Door → DoorView
 door_shown d = record { refused = d.refused.marks.items; roominess = d.roominess.items }
 
@@ -35,8 +36,10 @@ pub record Stage : Type 0 where
   pub notes : List Note
   -- no turn can follow
   pub is_over : Bool
+  -- the end was heard
   pub has_ended : Bool
 
+-- a party of the program with its outboxes, without where their lists lie in memory
 abbrev pub stage_of : {f g h : Type 0} {F : f → Type 0} {G : g → Type 0} {H : h → Type 0} {k l m : _} → Party f g h F G H k l m → Outboxes → Stage
 stage_of p o = record {
   at = at_of p.fleet o;
@@ -65,6 +68,7 @@ pub data Heard : Type 0 where
   kept : ℕ → Heard
   end : Heard
 
+-- what a fleet hears of, by the cue of the program
 abbrev pub heard_of : Cue → Heard
 heard_of (cue.Line from bytes) = line from bytes.now
 heard_of (cue.Room to) = room to
@@ -75,14 +79,15 @@ heard_of cue.Due = due
 heard_of (cue.Kept chapter) = kept chapter
 heard_of cue.End = end
 
--- the same with another fleet, and with another rest of one conversation's answer
+-- the stage with another fleet
 abbrev pub with_at : Stage → At → Stage
 with_at s at = record s { at = at }
 
--- the same where other texts and chapters wait
+-- the stage where other texts and chapters wait
 abbrev pub with_out : Stage → Out → Stage
 with_out s out = with_at s (record { fleet = s.at.fleet; out = out })
 
+-- the stage with another state of one conversation
 abbrev pub with_speaker : Stage → ℕ → Speaker → Stage
 with_speaker s k sp = record s { speakers = slice_set s.speakers k sp }
 
@@ -90,6 +95,7 @@ with_speaker s k sp = record s { speakers = slice_set s.speakers k sp }
 abbrev pub resting : Speaker → Rest → Speaker
 resting sp left = record sp { rest = left }
 
+-- the stage with this left of one conversation's answer
 abbrev pub with_rest : Stage → ℕ → Speaker → Rest → Stage
 with_rest s k sp left = with_speaker s k (resting sp left)
 

@@ -18,6 +18,7 @@ use Rattle.live_fleet.specs.Party.{Stage, with_at}
 use Rattle.live_fleet.specs.Turning.{Settles}
 use Rattle.live_fleet.specs.Went.{At, Went}
 
+-- whether an order is a close
 abbrev pub is_close : Order → Bool
 is_close Close = true
 is_close _ = false

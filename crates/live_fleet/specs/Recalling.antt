@@ -10,7 +10,7 @@ abbrev pub noted_at : Act → Recalls → Recalls
 noted_at (told to client notice) r = noted client notice r
 noted_at _ r = r
 
--- so is each, in order
+-- each notice that is told is kept, in order
 abbrev pub noted_by : List Act → Recalls → Recalls
 noted_by [] r = r
 noted_by (act ∷ acts) r = noted_by acts (noted_at act r)
@@ -23,6 +23,6 @@ AreBegun h r t = (c : ℕ) → c < clients h → recall_of t c ≡ begun (client
 abbrev pub IsRecalled : Recalls → ℕ → Type 0
 IsRecalled r c = (c < length r.clients) × (length (recall_of r c).notices ≤ r.most)
 
--- those of each client of a fleet that was opened, or goes on
+-- the notices of each client are kept, no more than there may be, in a fleet that was opened or goes on
 abbrev pub AreRecalled : History Global → Recalls → Type 0
 AreRecalled h r = (c : ℕ) → c < clients h → IsRecalled r c

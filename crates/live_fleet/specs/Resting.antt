@@ -65,6 +65,7 @@ abbrev pub listed_line : ℕ → List OpenErrand → Option OpenErrand → List 
 listed_line client errands (Some e) = open_line client e
 listed_line client errands None = open_end client (length errands)
 
+-- the line of a list of errands after the first n
 abbrev pub line_listed : ℕ → List OpenErrand → ℕ → List ℕ
 line_listed client errands listed = listed_line client errands (slice_get errands listed)
 
@@ -73,11 +74,12 @@ abbrev pub row_line : Rows → ℕ → List ℕ
 row_line (Errands client errands) listed = line_listed client errands.items listed
 row_line (Robots robots) listed = robot_listed robots.items listed
 
+-- how many rows there are
 abbrev pub count_in : Rows → ℕ
 count_in (Errands client errands) = length errands.items
 count_in (Robots robots) = length robots.items
 
--- under its mark
+-- the next line of a list, under its mark
 abbrev pub line_of : Listing → List ℕ
 line_of list = marked (mark_kept list.mark) (row_line list.rows list.listed)
 
@@ -96,6 +98,7 @@ pub data TellsRest (k : ℕ) (sp : Speaker) (s : Stage) (acts : List Act) (t : S
 
 -- ---- what is left of an answer
 
+-- how an answer goes on, by what is left of it
 abbrev pub Continues : Rest → ℕ → Speaker → Stage → List Act → Stage → Type 0
 Continues rest.Nothing k sp s acts t = (acts ≡ []) × (t ≡ s)
 Continues (rest.Line line) k sp s acts t = Answers k sp line.items s acts t
@@ -114,6 +117,7 @@ abbrev pub EndsAnswer : (has_ended : Bool) → ℕ → Stage → Stage → Type 
 EndsAnswer true k s t = (sp : Speaker) × (slice_get s.speakers k ≡ Some sp) × (t ≡ with_speaker s k (at_end sp))
 EndsAnswer false k s t = t ≡ s
 
+-- what is left of a conversation's answer goes on, and once the fleet has ended it is told what is left
 abbrev pub GoesOn : ℕ → Stage → List Act → Stage → Type 0
 GoesOn k s acts t = (mid : Stage) × GoesOnce k s acts mid × EndsAnswer mid.has_ended k mid t
 
@@ -135,13 +139,15 @@ KeptFor (rest.Keeping mark n entries) number k sp s acts t =
     MatchBool (n == number) (Answers k sp (marked (mark_kept mark) (chapter_line n entries)) s acts t) ((acts ≡ []) × (t ≡ s))
 KeptFor _ number k sp s acts t = (acts ≡ []) × (t ≡ s)
 
+-- a conversation is answered if it waits for the chapter of this number
 abbrev pub KeptAt : ℕ → ℕ → Stage → List Act → Stage → Type 0
 KeptAt number k s acts t = (sp : Speaker) × (slice_get s.speakers k ≡ Some sp) × KeptFor sp.rest number k sp s acts t
 
+-- each conversation that waits for the chapter of this number is answered
 abbrev pub NotesKept : ℕ → Stage → List Act → Stage → Type 0
 NotesKept number s acts t = Each (KeptAt number) (range_with_len 0 (length s.speakers)) s acts t
 
--- the same of its answer
+-- the answer of a conversation that waits for this chapter is said
 abbrev pub KeptIn : Rest → ℕ → ℕ → Out → Out → Rest → Type 0
 KeptIn (rest.Keeping mark n entries) number k old new left =
     MatchBool (n == number) (AnswersIn k (marked (mark_kept mark) (chapter_line n entries)) old new left) ((new ≡ old) × (left ≡ rest.Keeping mark n entries))

@@ -36,10 +36,12 @@ all_open h = flat_map (open_errands h) (range_with_len 0 (clients h))
 abbrev pub errands_of : List OpenErrand → ℕ → ℕ
 errands_of all r = count_by (λ e. e.robot == r) all
 
+-- the cell of a robot's first errand; without one its own cell
 abbrev pub goal_of : ℕ → Option Errand → ℕ
 goal_of cell (Some e) = e.cell
 goal_of cell None = cell
 
+-- shut, or else busy if it has an errand
 abbrev pub duty_of : (is_shut is_busy : Bool) → Duty
 duty_of is_shut is_busy = if is_shut then Shut else if is_busy then Busy else Free
 
@@ -54,9 +56,11 @@ row_of w r = record {
   duty = duty_of (is_shut w.history r) (is_some (wait w.history r));
 }
 
+-- how each robot stands, by number
 abbrev pub rows_of : {A : Type 0} → World A → List RobotRow
 rows_of w = map (row_of w) (range_with_len 0 (robots w.history))
 
+-- the rows are those of all robots
 abbrev pub AreRobots : World Global → Rows → Type 0
 AreRobots w (rows.Robots robots) = robots.items ≡ rows_of w
 AreRobots w _ = ⊥
@@ -66,5 +70,6 @@ abbrev pub IsRoll : Option (List ℕ) → World Global → Rest → Type 0
 IsRoll shown w (rest.Listing list) = (mark_kept list.mark ≡ shown) × AreRobots w list.rows × (list.listed ≡ 0)
 IsRoll shown w _ = ⊥
 
+-- all robots are to be listed
 abbrev pub HearsRobots : ℕ → Speaker → Option (List ℕ) → Stage → List Act → Stage → Type 0
 HearsRobots k sp mark s acts t = (left : Rest) × IsRoll mark s.at.fleet.talk.world left × (acts ≡ []) × (t ≡ with_rest s k sp left)

@@ -15,6 +15,7 @@ abbrev pub note_or : Option Note → Note
 note_or (Some note) = note
 note_or None = record { closed = false; last = 0 }
 
+-- what is known of the posts of the client with this number
 abbrev pub note_at : List Note → ℕ → Note
 note_at notes client = note_or (slice_get notes client)
 
@@ -28,9 +29,11 @@ standing_at notes recalls client = record {
   closed = (note_at notes client).closed || (recall_of recalls client).closed;
 }
 
+-- whether a client is closed, as one word
 abbrev pub closed_word : Bool → List ℕ
 closed_word closed = if closed then codes "true" else codes "false"
 
+-- the line of how far the fleet is with a client
 abbrev pub session_line : Standing → List ℕ
 session_line x =
     codes "session " ++ (decimal x.client ++ (codes " orders " ++ (decimal x.orders ++ (codes " notices " ++ (decimal x.told
@@ -57,6 +60,6 @@ since_end client count = codes "since " ++ (decimal client ++ (codes " end " ++ 
 abbrev pub again_text : ℕ → List Notice → List ℕ
 again_text client notices = flat_map (notice_line client) notices ++ since_end client (length notices)
 
--- those after the notice of this number, of which one answer has 14,336 bytes and the line in which they end
+-- the notices after the one of this number: of their lines one answer has 14,336 bytes, and the line that ends them
 abbrev pub since_text : Recalls → (mark client seq : ℕ) → List ℕ
 since_text recalls mark client seq = again_text client (told_again mark client 14336 (later_than seq (recall_of recalls client).notices))

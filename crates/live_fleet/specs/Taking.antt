@@ -38,6 +38,6 @@ pub record TakesOne (most client : ℕ) (a : At) (acts : List Act) (b : At) : Ty
   pub only : AllByRecursion (IsTaking client) acts
   pub whole : AllTaken b.fleet.talk client ⊎ (most ≤ length acts)
 
--- those of each client, by number: of each as many as a lane has room for
+-- the orders of each client were judged, by number: of each as many as a lane has room for
 abbrev pub Takes : ℕ → At → List Act → At → Type 0
 Takes count a acts b = Each (TakesOne a.fleet.talk.world.limits.lane) (range_with_len 0 count) a acts b

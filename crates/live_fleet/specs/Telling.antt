@@ -45,6 +45,7 @@ ComesTo to client told.One a b = length (text_at a.out to) + 1 ≤ length (text_
 ComesTo to client told.All a b = (clients b.fleet.talk.world.history ≤ client) ⊎ FindsNothing b.fleet.talk client
 ComesTo to client told.Full a b = IsFull (text_at b.out to)
 
+-- a client's next notice was told to a conversation, or there is none, or no room for it
 pub record TellsNext (to client : ℕ) (told : Told) (a : At) (acts : List Act) (b : At) : Type 0 where
   pub went : Went a acts b
   pub only : AllByRecursion (IsTelling to client) acts
@@ -69,7 +70,7 @@ numbers_of c = range_with_len c.first (c.end - c.first)
 abbrev pub TellsClients : ℕ → Clients → At → List Act → At → Type 0
 TellsClients to who a acts b = Each (λ client a acts b. (all : Bool) × TellsOne to client all a acts b) (numbers_of who) a acts b
 
--- all notices of each of them
+-- a conversation was told all notices of each of these clients
 abbrev pub TellsWhole : ℕ → Clients → At → List Act → At → Type 0
 TellsWhole to who a acts b = Each (λ client a acts b. TellsOne to client true a acts b) (numbers_of who) a acts b
 
@@ -78,10 +79,11 @@ abbrev pub TellsWhere : Bool → ℕ → Clients → At → List Act → At → 
 TellsWhere true to who a acts b = TellsClients to who a acts b
 TellsWhere false to who a acts b = (acts ≡ []) × (b ≡ a)
 
+-- a conversation was told the notices of its clients, if it may be told any now
 abbrev pub TellsTo : Speaker → ℕ → At → List Act → At → Type 0
 TellsTo sp to a acts b = TellsWhere (is_open sp.rest) to sp.clients a acts b
 
--- the same of the conversation with this number, if it is there
+-- the conversation with this number was told so, if it is there
 abbrev pub TellsAt : List Speaker → ℕ → At → List Act → At → Type 0
 TellsAt who to a acts b = MatchOption (slice_get who to) ((acts ≡ []) × (b ≡ a)) (λ sp. TellsTo sp to a acts b)
 

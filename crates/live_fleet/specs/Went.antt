@@ -21,6 +21,7 @@ pub record At : Type 0 where
   pub fleet : FleetView
   pub out : Out
 
+-- an open fleet of the program with its outboxes, without where their lists lie in memory
 abbrev pub at_of : {f g h : Type 0} {F : f → Type 0} {G : g → Type 0} {H : h → Type 0} {k l m : _} → OpenFleet f g h F G H k l m → Outboxes → At
 at_of f o = record { fleet = record { talk = talk f.session; met = f.limited; recalls = f.recalls }; out = out_of o }
 

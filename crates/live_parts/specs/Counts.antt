@@ -4,15 +4,15 @@ use Rattle.live_parts.specs.Notices.{capped}
 use Rattle.live_parts.specs.declared.waits.WaitReport.{WaitReport}
 use Rattle.live_parts.specs.declared.tally.Tally.{Tally}
 
--- with one more tick
+-- the counts with one more tick
 abbrev pub with_tick : Tally → Tally
 with_tick t = record t { ticks = capped t.ticks 1 }
 
--- with this many more orders
+-- the counts with this many more orders
 abbrev pub with_orders : Tally → ℕ → Tally
 with_orders t orders = record t { orders = capped t.orders orders }
 
--- with a turn that began so many microseconds after its deadline
+-- the counts with a turn that began this many microseconds after its deadline
 abbrev pub with_lateness : Tally → (micros period : ℕ) → Tally
 with_lateness t micros period = record t { late = if nat_le period micros then capped t.late 1 else t.late; latest = max t.latest micros }
 

@@ -33,14 +33,16 @@ watch_asked (word ∷ state ∷ []) =
     else demand.Bad
 watch_asked words = demand.Bad
 
--- the client that a word numbers
+-- the number, where it is below 2^32
 abbrev pub small : ℕ → Option ℕ
 small n = if nat_lt n (2 ^ 32) then Some n else None
 
+-- the client of a number, if there is one
 abbrev pub client_of : Option ℕ → Option ℕ
 client_of None = None
 client_of (Some n) = small n
 
+-- the client that a word numbers
 abbrev pub client_in : List ℕ → Option ℕ
 client_in word = client_of (number_of word)
 
@@ -48,10 +50,12 @@ client_in word = client_of (number_of word)
 abbrev pub seq_in : List ℕ → Option ℕ
 seq_in word = option_map (λ n. min n (2 ^ 58)) (number_of word)
 
+-- what `session` asks, by its client
 abbrev pub session_of : Option ℕ → Demand
 session_of None = demand.Bad
 session_of (Some client) = demand.Session client
 
+-- what `since` asks, by its client and the number of a notice
 abbrev pub since_of : Option ℕ → Option ℕ → Demand
 since_of (Some client) (Some seq) = demand.Since client seq
 since_of client seq = demand.Bad
@@ -76,6 +80,7 @@ abbrev pub as_said : ℕ → Said → Demand
 as_said number (said.events more) = post_as number more.event
 as_said number line = demand.Bad
 
+-- what `as` asks, by the number and the words after it
 abbrev pub as_of : Option ℕ → List (List ℕ) → Demand
 as_of (Some number) words = as_said number (said_in words)
 as_of None words = demand.Bad

@@ -23,12 +23,15 @@ seconds_text micros =
 abbrev pub bucket_line : List ℕ → Bucket → List ℕ
 bucket_line name b = name ++ (codes "_bucket{le=\"" ++ (seconds_text b.most ++ (codes "\"} " ++ (decimal b.count ++ codes "\n"))))
 
+-- what a histogram is: its name and its help
 abbrev pub begin_text : List ℕ → List ℕ → List ℕ
 begin_text name help = codes "# HELP " ++ (name ++ (codes " " ++ (help ++ (codes "\n# TYPE " ++ (name ++ codes " histogram\n")))))
 
+-- how many there were in all, and how long they took together
 abbrev pub end_text : List ℕ → Histogram → List ℕ
 end_text name h =
     name ++ (codes "_bucket{le=\"+Inf\"} " ++ (decimal h.count ++ (codes "\n" ++ (name ++ (codes "_sum " ++ (seconds_text h.micros ++ (codes "\n" ++ (name ++ (codes "_count " ++ (decimal h.count ++ codes "\n"))))))))))
 
+-- a histogram: what it is, its buckets, and how many there were in all
 abbrev pub histogram_text : List ℕ → List ℕ → Histogram → List ℕ
 histogram_text name help h = begin_text name help ++ flat_map (bucket_line name) h.buckets ++ end_text name h

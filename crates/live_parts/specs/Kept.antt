@@ -9,6 +9,7 @@ use Rattle.fleet_talk.specs.Chapters.{Adds, ChapterView, IsSound}
 abbrev pub IsKeepable : {A : Type 0} → ChapterView A → Type 0
 IsKeepable c = (turns : Option Turns) × (m : Floor) × IsSound turns m c.history
 
+-- chapters that may be kept
 abbrev pub AreSound : {A : Type 0} → List (ChapterView A) → Type 0
 AreSound cs = AllByRecursion IsKeepable cs
 

@@ -32,10 +32,10 @@ capped a b = min (a + b) (2 ^ 64 - 1)
 abbrev pub open_count : ℕ → Notices → ℕ
 open_count before n = capped before (told_count n (verdict.Accepted 0)) - told_count n verdict.Withdrawn - n.arrived
 
--- with one more verdict
+-- the counts with one more verdict
 abbrev pub with_verdict : Notices → Verdict → Notices
 with_verdict n v = record n { verdicts = slice_set n.verdicts (kind v) (capped (told_count n v) 1) }
 
--- with this many more arrivals
+-- the counts with this many more arrivals
 abbrev pub with_arrivals : Notices → ℕ → Notices
 with_arrivals n arrivals = record n { arrived = capped n.arrived arrivals }

@@ -29,5 +29,6 @@ timed unit number = if nat_lt 3600000000 number then None else within_hour (numb
 abbrev pub period_at : List ℕ → ℕ → Option ℕ
 period_at word at = option_and_then (λ unit. option_and_then (timed unit) (number_of (take at word))) (unit_named (drop at word))
 
+-- the microseconds that a word says, as 20ms; `None` of a word that says none, or more than an hour
 abbrev pub period_in : List ℕ → Option ℕ
 period_in word = option_and_then (period_at word) (position is_letter word)

@@ -17,6 +17,7 @@ pub record Recalls : Type 0 where
   pub most : ℕ
   pub clients : List Recall
 
+-- a client that was told nothing, and is not closed
 abbrev pub nothing_told : Recall
 nothing_told = record { notices = []; told = 0; closed = false }
 
@@ -24,6 +25,7 @@ nothing_told = record { notices = []; told = 0; closed = false }
 abbrev pub recall_at : List Recall → ℕ → Recall
 recall_at rs c = slice_index_or rs c nothing_told
 
+-- what a client was told
 abbrev pub recall_of : Recalls → ℕ → Recall
 recall_of s c = recall_at s.clients c
 
@@ -31,7 +33,7 @@ recall_of s c = recall_at s.clients c
 abbrev pub last_of : {X : Type 0} → ℕ → List X → List X
 last_of most xs = drop (length xs - most) xs
 
--- with one more notice, of which at most `most` are kept
+-- what a client was told with one more notice, of which at most `most` are kept
 abbrev pub with_notice : ℕ → Notice → Recall → Recall
 with_notice most n r = record r { notices = last_of most (r.notices ++ n ∷ []); told = seq_of n }
 
@@ -44,6 +46,7 @@ abbrev pub first_seq : List Notice → ℕ → ℕ
 first_seq [] told = capped told 1
 first_seq (n ∷ ns) told = seq_of n
 
+-- the number of the first notice that is kept, or of the one after all that were told
 abbrev pub first_of : Recall → ℕ
 first_of r = first_seq r.notices r.told
 
@@ -53,9 +56,11 @@ later_than seq ns = filter (λ n. nat_lt seq (seq_of n)) ns
 
 -- ---- a fleet that begins, or goes on
 
+-- the last of the notices
 abbrev pub last_notice : List Notice → Option Notice
 last_notice ns = slice_get ns (length ns - 1)
 
+-- whether the notice has this number, or there is none
 abbrev pub is_numbered : ℕ → Option Notice → Bool
 is_numbered seq None = true
 is_numbered seq (Some n) = seq_of n == seq
@@ -86,7 +91,7 @@ is_next (Some n) (Some m) = seq_of n + 1 == seq_of m
 abbrev pub leads_to : List Notice → List Notice → Bool
 leads_to before ns = is_next (last_notice before) (slice_get ns 0)
 
--- with notices before those that are kept, as many as there is room for; none if they do not end where those begin
+-- with notices before those that are kept, as many as there is room for; unchanged if they do not end where those begin
 abbrev pub with_before : ℕ → List Notice → Recall → Recall
 with_before most before r = record r { notices = if leads_to before r.notices then last_of most (before ++ r.notices) else r.notices }
 

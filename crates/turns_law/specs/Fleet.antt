@@ -20,6 +20,7 @@ pub record Fleet : Type 0 where
   pub goals : List (Option ℕ)
   pub waits : List (Option ℕ)
 
+-- n robots on distinct floor cells: each can reach its goal, and its wait can still grow
 pub record IsFleet (m : Floor) (n : ℕ) (f : Fleet) : Type 0 where
   pub robots : length f.cells ≡ n
   pub waiting : length f.waits ≡ n
@@ -54,6 +55,7 @@ abbrev pub wait_if_served : Turns → Option ℕ → Option ℕ → Option ℕ
 wait_if_served t None wait = None
 wait_if_served t (Some g) wait = if nat_lt (slice_index t.capacity (slice_index t.core g)) t.robots then None else wait
 
+-- the robot's wait, if its goal is served; `None` where it is not, or there is none
 abbrev pub served_wait : Turns → Fleet → ℕ → Option ℕ
 served_wait t f r = wait_if_served t (goal_at f.goals r) (wait_of f.waits r)
 

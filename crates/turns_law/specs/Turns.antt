@@ -6,11 +6,17 @@ use Rattle.fleet_bridge.specs.Rooms.{AreRoomsBy}
 
 -- lists by cells, and the number of robots
 pub record Turns : Type 0 where
+  -- one cell for all cells of a part
   pub core : List ℕ
+  -- the door of the cell's room, or the core where it is in none
   pub door : List ℕ
+  -- by door, the cell next to it outside of the room
   pub mouth : List ℕ
+  -- by door, how many cells the room has
   pub size : List ℕ
+  -- by core, for how many robots the cells of its part are served
   pub capacity : List ℕ
+  -- how far the cell is from its core
   pub away : List ℕ
   pub robots : ℕ
 
