@@ -33,7 +33,8 @@ impl<A: Allocator + Copy> Core<A> {
         self.planner.search_one(&self.grid, &self.state)
     }
 
-    /// How many robots' fields are not searched yet as far as the next tick may ask them: after 0 it searches nothing.
+    /// How many robots' fields are not searched yet as far as the next tick may ask them: after 0 it is planned without a
+    /// search. For a robot that arrives in the tick a new search begins.
     pub fn missing(&self) -> usize
         ensures idle { IsIdle self.now.history → result ≡ 0 }
         ensures few { result ≤ robots self.now.history }
