@@ -117,8 +117,8 @@ pub(crate) fn tell_if_due<I: Read, W: Write, S: ChapterSink>(
     ensures input { ends.new.input ≡ ends.old.input }
     ensures kept { S.kept ends.new.sink ≡ S.kept ends.old.sink }
 {
-    if has_line(ends.input.buffer()) && !pen.is_full() {
-        return Ok(());
+    if has_line(ends.input.buffer()) {
+        return tell_if_full(session, ends, pen);
     }
     tell_now(session, ends, pen)
 }
