@@ -28,6 +28,7 @@ RAW(take_many);
 RAW(tick);
 RAW(tick_into);
 RAW(shut);
+RAW(search_one);
 RAW(give);
 RAW(give_many);
 RAW(peek);
@@ -35,6 +36,7 @@ RAW(pending_count);
 RAW(account_of);
 RAW(widen);
 RAW(robots);
+RAW(missing);
 RAW(clients);
 RAW(limits);
 RAW(placement);
@@ -222,6 +224,13 @@ nashirudder_code nashirudder_shut(nashirudder_fleet *fleet, uint32_t robot,
     return raw_nashirudder_shut(fleet, robot, left ? left : &unread_left);
 }
 
+nashirudder_code nashirudder_search_one(nashirudder_fleet *fleet,
+        size_t *missing) {
+    size_t unread_missing;
+    if (!fleet) return NASHIRUDDER_NULL_POINTER;
+    return raw_nashirudder_search_one(fleet, missing ? missing : &unread_missing);
+}
+
 nashirudder_code nashirudder_give(nashirudder_fleet *fleet, uint32_t client,
         nashirudder_note *note) {
     if (!fleet || !note) return NASHIRUDDER_NULL_POINTER;
@@ -271,6 +280,13 @@ nashirudder_code nashirudder_robots(const nashirudder_fleet *fleet,
     if (!fleet || !count) return NASHIRUDDER_NULL_POINTER;
     nashirudder_fleet seen = *fleet;
     return raw_nashirudder_robots(&seen, count);
+}
+
+nashirudder_code nashirudder_missing(const nashirudder_fleet *fleet,
+        size_t *missing) {
+    if (!fleet || !missing) return NASHIRUDDER_NULL_POINTER;
+    nashirudder_fleet seen = *fleet;
+    return raw_nashirudder_missing(&seen, missing);
 }
 
 nashirudder_code nashirudder_clients(const nashirudder_fleet *fleet,

@@ -593,6 +593,14 @@ NASHIRUDDER_MUST_USE nashirudder_code nashirudder_tick_into(nashirudder_fleet *f
 ** NASHIRUDDER_NO_MEMORY. */
 NASHIRUDDER_MUST_USE nashirudder_code nashirudder_shut(nashirudder_fleet *fleet, uint32_t robot, bool *left);
 
+/* Searches the field of one robot's goal as far as the next tick will need it, and sets `missing` to how many robots' fields are
+** still to be searched: after 0 the next tick is planned without a search. On a large map the searches take most of the time of
+** the tick after a goal is new, and a program with frames spreads them so. Nothing else changes: with searches and without, the
+** same orders and ticks give the same bytes.
+**
+** Refused: NASHIRUDDER_NOT_OPEN, NASHIRUDDER_NO_MEMORY; what was searched by then is not searched again. */
+NASHIRUDDER_MUST_USE nashirudder_code nashirudder_search_one(nashirudder_fleet *fleet, size_t *missing);
+
 /* ---- mailboxes ---- */
 
 /* Gives a client the first of its notices that it was not given; the notice leaves the mailbox.
@@ -635,6 +643,10 @@ NASHIRUDDER_MUST_USE nashirudder_code nashirudder_widen(nashirudder_fleet *fleet
 /* How many robots, and how many clients, there are. Refused: NASHIRUDDER_NOT_OPEN. */
 NASHIRUDDER_MUST_USE nashirudder_code nashirudder_robots(const nashirudder_fleet *fleet, size_t *count);
 NASHIRUDDER_MUST_USE nashirudder_code nashirudder_clients(const nashirudder_fleet *fleet, size_t *count);
+
+/* How many robots' fields are still to be searched before the next tick (nashirudder_search_one), at most one for each robot that
+** has an errand. Refused: NASHIRUDDER_NOT_OPEN. */
+NASHIRUDDER_MUST_USE nashirudder_code nashirudder_missing(const nashirudder_fleet *fleet, size_t *missing);
 
 /* The limits, and the number of clients. Refused: NASHIRUDDER_NOT_OPEN. */
 NASHIRUDDER_MUST_USE nashirudder_code nashirudder_limits(const nashirudder_fleet *fleet, nashirudder_setup *setup);

@@ -204,6 +204,8 @@ int main(void) {
             TRY(others, nashirudder_take_turns(&fleet));
             TRY(orders, nashirudder_go(&fleet, 0, 0, 11, &judgement));
             TRY(orders, nashirudder_go(&fleet, 0, 1, 8, &judgement));
+            for (int i = 0; i < 3; i++) TRY(others, nashirudder_search_one(&fleet, &count));
+            if (count != 0) return 13;
             for (int i = 0; i < 3; i++) TRY(ticks, nashirudder_tick(&fleet, &report));
             for (int i = 0; i < 3; i++) TRY(ticks, nashirudder_tick_into(&fleet, &report, cells, 2, arrivals, 2, gone, 2));
             TRY(others, nashirudder_standings(&fleet, standings, 2));

@@ -1,9 +1,11 @@
 /* What a frame costs: prints, for several maps and numbers of robots, how long calls take and how much memory a fleet has, as the
-   rows of a table in docs/EMBEDDING.md; with EACH how long frames take in which no more first orders are made than that. Times
-   are those of the processor. usage: frames [SIDE [ROBOTS [EACH]]] */
+   rows of a table in docs/EMBEDDING.md; with EACH how long frames take in which no more first orders are made than that; with 0
+   and MS how long they take where all are made at once, and then each frame searches for so many milliseconds before the first
+   tick. Times are those of the processor. usage: frames [SIDE [ROBOTS [EACH [MS]]]] */
 #include "nashirudder.hpp"
 
 #include <algorithm>
+#include <chrono>
 #include <cstdio>
 #include <cstdlib>
 #include <ctime>
@@ -115,7 +117,35 @@ static void spread(Run run, std::size_t robots, std::uint32_t each) {
     std::printf("%u first orders a frame: %zu frames, mean %.1f ms, most %.1f ms\n", each, took.size(), mean(took) / 1e3, *std::max_element(took.begin(), took.end()) / 1e3);
 }
 
-static void row(std::uint32_t side, std::uint32_t blocked, std::uint32_t robots, std::uint32_t each) {
+/* The frames that search, each for so many milliseconds, until no field is missing. */
+static std::vector<double> searches(Run &run, std::uint32_t most) {
+    std::vector<double> took;
+    while (run.fleet.missing() > 0) {
+        const double frame = now();
+        (void)run.fleet.search_until(std::chrono::steady_clock::now() + std::chrono::milliseconds(most));
+        took.push_back(now() - frame);
+    }
+    return took;
+}
+
+/* All first orders are made at once, and each tick waits for the frames that search before it. */
+static void searched(Run run, std::size_t robots, std::uint32_t most) {
+    run.send(robots);
+    const std::vector<double> before = searches(run, most);
+    const double first = run.tick();
+    std::vector<double> took, frames;
+    for (int tick = 0; tick < 500; tick++) {
+        run.send(robots);
+        for (double frame : searches(run, most)) frames.push_back(frame);
+        took.push_back(run.tick());
+    }
+    std::sort(took.begin(), took.end());
+    std::printf("frames of %u ms: %zu before the first tick, mean %.1f ms, most %.1f ms; the first tick %.2f ms; %zu frames before 500 more ticks, of which the mean takes %.2f ms, 99 of 100 less than "
+                "%.2f ms, and the longest %.2f ms\n", most, before.size(), mean(before) / 1e3, *std::max_element(before.begin(), before.end()) / 1e3, first / 1e3, frames.size(),
+                mean(took) / 1e3, took[took.size() * 99 / 100] / 1e3, took.back() / 1e3);
+}
+
+static void row(std::uint32_t side, std::uint32_t blocked, std::uint32_t robots, std::uint32_t each, std::uint32_t most) {
     std::mt19937 draw(1);
     const std::string text = square(side, blocked, draw);
     std::vector<std::uint32_t> cells = largest(ns::Map(text));
@@ -123,6 +153,7 @@ static void row(std::uint32_t side, std::uint32_t blocked, std::uint32_t robots,
     auto [run, opening] = opened(text, std::move(cells), robots, draw);
     const double alone = megabytes() - before;
     if (each > 0) return spread(std::move(run), robots, each);
+    if (most > 0) return searched(std::move(run), robots, most);
     run.send(robots);
     const double first = run.tick();
     run.order = 0;
@@ -140,10 +171,10 @@ static void row(std::uint32_t side, std::uint32_t blocked, std::uint32_t robots,
 
 int main(int count, char **words) {
     const auto number = [&](int at) { return count > at ? static_cast<std::uint32_t>(std::strtoul(words[at], nullptr, 10)) : 0; };
-    if (number(3) == 0) std::printf("| Map, blocked | Robots | Opening | First tick | Tick, mean | Tick, 99%% | `go` | New | After |\n|---|---|---|---|---|---|---|---|---|\n");
+    if (number(3) + number(4) == 0) std::printf("| Map, blocked | Robots | Opening | First tick | Tick, mean | Tick, 99%% | `go` | New | After |\n|---|---|---|---|---|---|---|---|---|\n");
     for (std::uint32_t side : {64u, 128u, 512u, 1024u}) {
         for (std::uint32_t robots : {50u, 300u, 512u}) {
-            if ((number(1) == 0 || number(1) == side) && (number(2) == 0 || number(2) == robots)) row(side, side == 64 ? 0 : side == 128 ? 15 : 20, robots, number(3));
+            if ((number(1) == 0 || number(1) == side) && (number(2) == 0 || number(2) == robots)) row(side, side == 64 ? 0 : side == 128 ? 15 : 20, robots, number(3), number(4));
         }
     }
 }

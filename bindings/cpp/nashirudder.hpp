@@ -713,6 +713,26 @@ public:
         bool left = false;
         return detail::expected(in_chapter([&] { return nashirudder_shut(&handle, robot, &left); }), std::move(left));
     }
+    /* Searches the field of one robot's goal as far as the next tick will need it. How many are still to be searched: after 0 the
+    ** next tick is planned without a search. Nothing else changes. */
+    std::size_t search_one() { return detail::value_of(try_search_one()); }
+    [[nodiscard]] Expected<std::size_t> try_search_one() {
+        std::size_t left = 0;
+        return detail::expected(nashirudder_search_one(&handle, &left), std::move(left));
+    }
+    /* The same until none is left or this time of any clock has come, which is looked at before each search:
+    ** fleet.search_until(std::chrono::steady_clock::now() + 2ms). How many are left. */
+    template <class Time> std::size_t search_until(const Time &time) {
+        std::size_t left = missing();
+        while (left > 0 && Time::clock::now() < time) left = search_one();
+        return left;
+    }
+    /* How many robots' fields are still to be searched before the next tick. */
+    [[nodiscard]] std::size_t missing() const {
+        std::size_t left = 0;
+        detail::check(nashirudder_missing(&handle, &left));
+        return left;
+    }
     /* The client's next notice, or nothing. */
     [[nodiscard]] std::optional<Note> give(std::uint32_t client) { return detail::value_of(try_give(client)); }
     [[nodiscard]] Expected<std::optional<Note>> try_give(std::uint32_t client) {

@@ -3,6 +3,7 @@
 
 #include <algorithm>
 #include <atomic>
+#include <chrono>
 #include <cstdio>
 #include <cstdlib>
 #include <cstring>
@@ -921,6 +922,28 @@ static void turns() {
     CHECK(ring.go(0, 0, 11).number == 1);
 }
 
+/* Two robots in two rows: each goes straight along its own, so that one search finds its way. */
+static void searches() {
+    static const char *const ROWS = "type octile\nheight 2\nwidth 5\nmap\n.....\n.....\n";
+    using Clock = std::chrono::steady_clock;
+    const std::vector<Robot> two = {{0, {0, 0, 0, 0}}, {5, {0, 0, 0, 0}}};
+    Fleet plain(ROWS, two), ahead(ROWS, two);
+    CHECK(ahead.missing() == 0 && ahead.search_one() == 0);
+    for (Fleet *fleet : {&plain, &ahead}) CHECK(fleet->go(0, 0, 4).number == 1 && fleet->go(0, 1, 9).number == 2);
+    CHECK(ahead.missing() == 2 && ahead.search_until(Clock::time_point::min()) == 2);
+    CHECK(ahead.search_one() == 1 && ahead.missing() == 1 && plain.missing() == 2);
+    CHECK(ahead.search_until(Clock::time_point::max()) == 0 && ahead.search_one() == 0);
+    for (int tick = 1; tick <= 4; tick++) {
+        CHECK(plain.tick().arrived == ahead.tick().arrived && ahead.missing() == 0);
+    }
+    const std::vector<std::uint32_t> ends = {4, 9};
+    CHECK(ahead.is_idle() && ahead.placement() == ends && plain.trace() == ahead.trace());
+    nashirudder_fleet closed = NASHIRUDDER_CLOSED;
+    std::size_t left = 7;
+    CHECK(nashirudder_search_one(&closed, &left) == NASHIRUDDER_NOT_OPEN && nashirudder_missing(&closed, &left) == NASHIRUDDER_NOT_OPEN && left == 7);
+    CHECK(nashirudder_search_one(nullptr, &left) == NASHIRUDDER_NULL_POINTER && nashirudder_missing(&closed, nullptr) == NASHIRUDDER_NULL_POINTER);
+}
+
 int main(int count, char **) {
     if (count > 1) {
         lookers(5);
@@ -951,5 +974,6 @@ int main(int count, char **) {
     opened_maps();
     roomy();
     turns();
+    searches();
     std::printf("bindings/cpp/tests.cpp: all pass\n");
 }

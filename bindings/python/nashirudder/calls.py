@@ -138,6 +138,8 @@ FUNCTIONS = {
     "tick_into": (
         _FLEET, POINTER(CReport), POINTER(c_uint32), c_size_t, POINTER(CArrival), c_size_t, POINTER(c_uint32), c_size_t,
     ),
+    "search_one": (_FLEET, POINTER(c_size_t)),
+    "missing": (_FLEET, POINTER(c_size_t)),
     "shut": (_FLEET, c_uint32, POINTER(c_bool)),
     "give": (_FLEET, c_uint32, POINTER(CNote)),
     "give_many": (_FLEET, c_uint32, POINTER(CNote), c_size_t, POINTER(c_size_t)),

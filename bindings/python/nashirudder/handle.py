@@ -17,6 +17,7 @@ from .names import Code
 from .opening import MapText, Text, map_text, text_of
 from .ranges import checked_limits, limits_in, long_number, whole_number
 from .records import Arrival
+from .searches import Searches
 from .state import Opening, told_by
 from .told import Judgement, Notice, Report, TickRecord, judgement_of, notice_of
 from .uncopied import Uncopied
@@ -40,7 +41,7 @@ if TYPE_CHECKING:
 H = TypeVar("H", bound="Handle")
 
 
-class Handle(Uncopied, Views, Batches):
+class Handle(Uncopied, Views, Batches, Searches):
     """Robots on a map, and clients that send them to cells: the calls of nashirudder.h, of which that page says more.
 
     `map` is the text of a .map file, or a `pathlib.Path` of one. `robots` has each robot's start cell, 1 to 512 of them, or a pair of

@@ -206,6 +206,18 @@ class Fleet(AnyFleet):
                 for client in {arrival.client for arrival in arrivals}:
                     self._collect(client)
 
+    def search_one(self) -> int:
+        """Searches the field of one robot's goal as far as the next tick will need it, as `Handle.search_one` does."""
+        return self._in_turn(self._handle.search_one)
+
+    def search(self, seconds: float) -> int:
+        """The same until none is left or these seconds are over, as `Handle.search` does."""
+        return self._in_turn(lambda: self._handle.search(seconds))
+
+    def missing(self) -> int:
+        """How many robots' fields are still to be searched before the next tick."""
+        return self._in_turn(self._handle.missing)
+
     def _make_shut(self, robot: int) -> None:
         if self._entered(lambda: self._handle.shut(robot)):
             self._farewells.append(Farewell(robot, 0))

@@ -11,6 +11,7 @@ use crate::raw::{self, Handle, RawArrival, RawJudgement, RawNote, RawOrder};
 use crate::records::{Arrival, Notice, Report, Shown};
 use crate::state::Opening;
 use std::fmt;
+use std::time::{Duration, Instant};
 
 /// A fleet.
 pub struct Fleet {
@@ -178,6 +179,28 @@ impl Fleet {
         shown.arrivals.clear();
         shown.arrivals.extend(shown.told[..report.arrived as usize].iter().map(Arrival::of));
         Ok(report)
+    }
+
+    /// Searches the field of one robot's goal as far as the next tick will need it. How many are still to be searched: after
+    /// 0 the next tick is planned without a search. Nothing else changes.
+    ///
+    /// # Errors
+    ///
+    /// `Code::NoMemory`; what was searched by then is not searched again.
+    pub fn search_one(&mut self) -> Result<usize, Error> {
+        let mut missing = 0;
+        check(unsafe { raw::nashirudder_search_one(&mut self.handle, &mut missing) })?;
+        Ok(missing)
+    }
+
+    /// The same until none is left or this much time is over, which is looked at before each search. How many are left.
+    pub fn search(&mut self, time: Duration) -> Result<usize, Error> {
+        let begun = Instant::now();
+        let mut missing = self.missing()?;
+        while missing > 0 && begun.elapsed() < time {
+            missing = self.search_one()?;
+        }
+        Ok(missing)
     }
 
     /// The robot gets no more errands. Whether it has none, and so took its leave at once.

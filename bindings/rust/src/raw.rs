@@ -273,6 +273,8 @@ extern "C" {
         judgement: *mut RawJudgement,
     ) -> u32;
     pub(crate) fn nashirudder_tick(fleet: *mut Handle, report: *mut crate::Report) -> u32;
+    pub(crate) fn nashirudder_search_one(fleet: *mut Handle, missing: *mut usize) -> u32;
+    pub(crate) fn nashirudder_missing(fleet: *const Handle, missing: *mut usize) -> u32;
     pub(crate) fn nashirudder_shut(fleet: *mut Handle, robot: u32, left: *mut bool) -> u32;
     pub(crate) fn nashirudder_give(fleet: *mut Handle, client: u32, note: *mut RawNote) -> u32;
     pub(crate) fn nashirudder_pending_count(

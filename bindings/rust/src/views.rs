@@ -140,6 +140,13 @@ impl Fleet {
         }
     }
 
+    /// How many robots' fields are still to be searched before the next tick (`search_one`).
+    pub fn missing(&self) -> Result<usize, Error> {
+        let mut missing = 0;
+        check(unsafe { raw::nashirudder_missing(&self.handle, &mut missing) })?;
+        Ok(missing)
+    }
+
     /// Whether nobody has an errand.
     pub fn is_idle(&self) -> Result<bool, Error> {
         let mut is_idle = false;

@@ -4,6 +4,7 @@ use nashirudder::{
     check_step, distances, first_bridge, is_proved, judge, Account, Arrival, Cell, Client, Code, Error, Fleet, Map, Notice, OpenErrand, Order,
     Refused, Report, Robot, RobotId, Setup, Shape, Shown, Standing, State, Verdict,
 };
+use std::time::Duration;
 
 const RING: &[u8] = b"type octile\nheight 3\nwidth 4\nmap\n....\n.@..\n....\n";
 const ROW: &[u8] = b"type octile\nheight 1\nwidth 3\nmap\n...\n";
@@ -452,5 +453,29 @@ fn takes_turns_in_dead_ends() -> Result<(), Refused> {
         let expected = if take { [0, 0, 0, 0, 0, 1, 1] } else { [0; 7] };
         assert_eq!(arrived, expected);
     }
+    Ok(())
+}
+
+#[test]
+fn searches_before_a_tick() -> Result<(), Refused> {
+    // Two robots in two rows: each goes straight along its own, so that one search finds its way.
+    const ROWS: &[u8] = b"type octile\nheight 2\nwidth 5\nmap\n.....\n.....\n";
+    let robots = [Robot::at(0), Robot::at(5)];
+    let mut plain = Fleet::open(ROWS, &robots, &Setup::new(1))?;
+    let mut ahead = Fleet::open(ROWS, &robots, &Setup::new(1))?;
+    assert_eq!((ahead.missing()?, ahead.search_one()?), (0, 0));
+    for fleet in [&mut plain, &mut ahead] {
+        let _ = (fleet.go(0, 0, 4)?, fleet.go(0, 1, 9)?);
+    }
+    assert_eq!((ahead.missing()?, ahead.search(Duration::ZERO)?), (2, 2));
+    assert_eq!((ahead.search_one()?, ahead.missing()?, plain.missing()?), (1, 1, 2));
+    assert_eq!((ahead.search(Duration::MAX)?, ahead.search_one()?), (0, 0));
+    for _ in 0..4 {
+        assert_eq!(plain.tick()?.arrived, ahead.tick()?.arrived);
+        assert_eq!(ahead.missing()?, 0);
+    }
+    assert!(ahead.is_idle()?);
+    assert_eq!(ahead.placement()?, [4, 9]);
+    assert_eq!(plain.trace()?, ahead.trace()?);
     Ok(())
 }

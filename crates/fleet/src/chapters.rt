@@ -139,7 +139,11 @@ impl<R: Files + Alloc<A = Global> + Copy + Drop, E: Write + Drop> TraceFolder<R,
 
 impl<R: Files + Alloc<A = Global> + Copy + Drop, E: Write + Drop> ChapterSink
     for TraceFolder<R, E> {
+    ghost use Rattle.fleet_talk.specs.Journal.{no_journal};
+
     ghost kept = { λ _. None };
+
+    ghost journal = { λ _. no_journal };
 
     fn goes_on(&mut self, chapter: u32, tick: u64) {
         let line = format!(in self.rt.alloc();
@@ -183,6 +187,10 @@ impl<R: Files + Alloc<A = Global> + Copy + Drop, E: Write + Drop> ChapterSink
                 Err(SinkFault::File)
             }
         }
+    }
+
+    fn log(&mut self, _chapter: &Chapter) -> bool {
+        true
     }
 
     fn fault(&self) -> &str {

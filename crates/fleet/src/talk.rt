@@ -6,12 +6,14 @@ use crate::chapters::TraceFolder;
 use crate::ends::{FileFault, MOST_MAP_BYTES, complain, file_bytes};
 use crate::folder::{Found, Start, hold_folder, tell_start};
 use crate::folder_line::complain_of_folder;
+use crate::journal::FolderJournal;
+use crate::journals::remove_blank;
 use crate::kept_file::KeptFile;
 use crate::recovering::recover;
 use crate::troubles::Troubles;
 use fleet_lib::{
-    ChapterSink, Ends, InputFault, Manner, Settings, Talk, TalkTexts, complain_of_talk, fail,
-    run_talk, talk_settings,
+    ChapterSink, Ends, InputFault, Journal, Journaled, Manner, Settings, SinkFault, Talk,
+    TalkTexts, complain_of_talk, fail, run_talk, talk_settings,
 };
 use std::alloc::{Alloc, AllocError, Global};
 use std::fs::{File, Files};
@@ -75,13 +77,14 @@ fn hold_talk<
     E: Write,
     G: Write,
     S: ChapterSink + Drop,
+    J: Journal + Drop,
 >(
     rt: &R,
     (talk, settings): (&Talk, Settings),
     found: Found,
     (input, output): (I, W),
     (said, error): (&mut G, &mut E),
-    sink: S,
+    sink: Journaled<S, J>,
 ) -> u8 {
     let (map, script) = match texts_of(rt, talk.map.as_str(), &talk.script) {
         Ok(texts) => texts,
@@ -107,7 +110,29 @@ fn hold_talk<
         sink,
     };
     let texts = lent_texts(&map, &script, &kept);
-    run_talk(rt, texts, settings, &mut ends, said)
+    let status = run_talk(rt, texts, settings, &mut ends, said);
+    if ends.sink.journal_fault() == Some(SinkFault::NoMemory) {
+        return 7;
+    }
+    status
+}
+
+/// The journal in the folder of the words, if they ask for one.
+fn journal_of<R: Files<File = File> + Alloc<A = Global> + Copy + Drop, E: Write + Copy + Drop>(
+    rt: &R,
+    talk: &Talk,
+    troubles: &Troubles,
+    error: E,
+) -> Result<Option<FolderJournal<R, E>>, AllocError> {
+    match talk.traces.as_deref() {
+        Some(folder) if talk.journal => Ok(Some(FolderJournal::new(
+            rt,
+            folder,
+            troubles.journal()?,
+            error,
+        )?)),
+        _ => Ok(None),
+    }
 }
 
 /// Holds the conversation of these words, whose fleet goes on from a chapter if one is given. Returns the status.
@@ -128,9 +153,16 @@ fn talk_on<
     let troubles = Troubles::new(alloc)?;
     let ends = troubles.streams(rt, ends)?;
     let may_block = settings.manner == Manner::Plain;
-    let sink = TraceFolder::new(rt, (name, false), troubles.folder()?, *error, may_block)?;
+    let journal = journal_of(rt, talk, &troubles, *error)?;
+    let folder = (name, talk.journal);
+    let sink = TraceFolder::new(rt, folder, troubles.folder()?, *error, may_block)?;
+    let sink = Journaled::new(sink, journal);
     let mut said = Vec::new(alloc);
     let status = hold_talk(rt, (talk, settings), found, ends, (&mut said, error), sink);
+    if let (true, Some(name)) = (talk.journal, name) {
+        // One that stays is removed at the next start.
+        let _removed = remove_blank(rt, name);
+    }
     troubles.tell(alloc, (status, &said), name.unwrap_or(""), error);
     Ok(status)
 }

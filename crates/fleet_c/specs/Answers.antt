@@ -4,6 +4,7 @@ use Rattle.fleet_book.specs.declared.order.Order.{Order}
 use Rattle.fleet_book.specs.declared.verdict.Verdict.{Verdict}
 use Rattle.fleet_bound.specs.Arriving.{ArrivesInTurn}
 use Rattle.fleet_history.specs.History.{clients, robots, clock, is_shut}
+use Rattle.fleet_planner.specs.Aimed.{IsIdle}
 use Rattle.fleet_core.specs.declared.faults.TickReport.{TickReport}
 use Rattle.fleet_core.specs.declared.faults.TakeFault.{TakeFault}
 use Rattle.fleet_core.specs.declared.faults.TakeFault.TheVariants as take
@@ -99,3 +100,16 @@ pub record IsTakingTurns {A : Type 0} (w : World A) (code : ℕ) (n : World A) :
   pub taken : code ≡ DONE → TakesTurns w n
   pub same : code ≢ DONE → n ≡ w
   pub refused : code ≢ DONE → code ≢ CHAPTER_BEGUN → code ≢ NO_TURNS → code ≡ NO_MEMORY
+
+-- ---- searches before a tick
+
+-- how many robots' fields are still to be searched: none if no robot has an errand
+pub record CountsMissing {A : Type 0} (w : World A) (missing : ℕ) : Type 0 where
+  pub idle : IsIdle w.history → missing ≡ 0
+  pub few : missing ≤ robots w.history
+
+-- a field was searched, or memory ran out, and the world is as it was
+pub record IsSearched {A : Type 0} (w : World A) (code missing : ℕ) (n : World A) : Type 0 where
+  pub same : n ≡ w
+  pub counts : code ≡ DONE → CountsMissing n missing
+  pub refused : code ≢ DONE → code ≡ NO_MEMORY

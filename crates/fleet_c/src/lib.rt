@@ -2,6 +2,7 @@
 #![tactic(auto)]
 
 mod account;
+mod ahead;
 mod answers;
 mod batches;
 mod chapter_calls;

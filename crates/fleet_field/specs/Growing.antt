@@ -59,6 +59,24 @@ pub record IsOver {A : Type 0} (f : GrowingField A) : Type 0 where
 abbrev pub IsSettled : {A : Type 0} → Floor → GrowingField A → ℕ → Type 0
 IsSettled m f cell = IsFound m f cell ⊎ (IsOver f × ((slice_index f.labels.items cell ≢ 0) ⊎ (f.later.items ≡ [])))
 
+-- the same of what a field knows, without its memory: it has come to this cell, and to each neighbour that is nearer to the goal
+pub record Sees (m : Floor) (f : Growth) (cell : ℕ) : Type 0 where
+  pub here : slice_index f.search.labels cell ≢ 0
+  pub nearer : (w : ℕ) → IsNeighbour m cell w → IsLess (distance m w f.goal) (distance m cell f.goal) → slice_index f.search.labels w ≢ 0
+
+-- nothing waits in this round
+pub record IsRound (f : Growth) : Type 0 where
+  pub left : f.search.now ≡ []
+  pub emptied : f.search.next ≡ []
+
+-- what is known tells the ways from this cell: nothing is searched for it any more
+abbrev pub Tells : Floor → Growth → ℕ → Type 0
+Tells m f cell = Sees m f cell ⊎ (IsRound f × ((slice_index f.search.labels cell ≢ 0) ⊎ (f.search.later ≡ [])))
+
+-- how many cells are still to be left, or wait
+abbrev pub cells_left : Growth → ℕ
+cells_left f = length f.search.now + length f.search.next + length f.search.later
+
 -- how much is left to do in this round: it falls with each cell that is taken from a list
 abbrev pub to_do : {A : Type 0} → GrowingField A → ℕ
 to_do f = length f.now.items + length f.next.items + 2 * zero_count f.labels.items

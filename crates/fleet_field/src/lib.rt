@@ -22,6 +22,7 @@ mod several;
 mod spreading;
 mod store;
 mod target;
+mod telling;
 mod waiting;
 mod ways;
 mod work;

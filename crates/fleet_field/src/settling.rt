@@ -66,7 +66,7 @@ impl<A: Allocator + Copy> GrowingField<A> {
     }
 
     /// Whether some cell is still to be left, or waits in this round.
-    fn has_more(&self) -> bool
+    pub(crate) fn has_more(&self) -> bool
         ensures { IsTrue result ↔ (0 < length self.entry.now.now.items + length self.entry.now.next.items) }
     {
         !self.now.is_empty() || !self.next.is_empty()
@@ -108,7 +108,7 @@ impl<A: Allocator + Copy> GrowingField<A> {
     }
 
     /// Whether the search has not come to the cell, and may yet.
-    fn is_open(&self, cell: u32) -> bool
+    pub(crate) fn is_open(&self, cell: u32) -> bool
         requires { cell < length self.now.labels.items }
         ensures { IsTrue result ↔ ((slice_index self.entry.now.labels.items cell ≡ 0) × (0 < length self.entry.now.later.items)) }
     {

@@ -84,6 +84,7 @@ pub record IsTalk (rows : List Row) (talk : TalkJob) : Type 0 where
   pub floor : first_of (codes "MAP") rows ≡ Some (string_bytes talk.map)
   pub script : first_of (codes "SCRIPT") rows ≡ option_map (λ s. string_bytes s) talk.script
   pub traces : first_of (codes "traces") rows ≡ option_map (λ s. string_bytes s) talk.traces
+  pub journal : talk.journal ≡ has_flag (codes "journal") rows
   pub resume : talk.resume ≡ has_flag (codes "resume") rows
   pub resume_only : talk.resume_only ≡ has_flag (codes "resume-only") rows
   pub marks : talk.marks ≡ has_flag (codes "marks") rows

@@ -13,10 +13,10 @@ abbrev pub check_app : App
 check_app = with_rules (new_app (codes "check"))
     (flag_rule (codes "strict") ∷ flag_rule (codes "all") ∷ value_rule (codes "form") ∷ value_rule (codes "goals") ∷ number_rule (codes "agents") ∷ file_rule (codes "MAP") ∷ file_rule (codes "PLAN") ∷ [])
 
--- talk [--marks] [--roll] [--chapter-bytes N] [--roomy] [--planner NAME] [--traces DIR] [--resume] [--resume-only] MAP [SCRIPT]
+-- talk [--marks] [--roll] [--chapter-bytes N] [--roomy] [--planner NAME] [--traces DIR] [--journal] [--resume] [--resume-only] MAP [SCRIPT]
 abbrev pub talk_app : App
 talk_app = with_rules (new_app (codes "talk"))
-    (flag_rule (codes "marks") ∷ flag_rule (codes "roll") ∷ value_rule (codes "chapter-bytes") ∷ flag_rule (codes "roomy") ∷ value_rule (codes "planner") ∷ value_rule (codes "traces") ∷ flag_rule (codes "resume") ∷ flag_rule (codes "resume-only") ∷ file_rule (codes "MAP") ∷ new_rule (codes "SCRIPT") ∷ [])
+    (flag_rule (codes "marks") ∷ flag_rule (codes "roll") ∷ value_rule (codes "chapter-bytes") ∷ flag_rule (codes "roomy") ∷ value_rule (codes "planner") ∷ value_rule (codes "traces") ∷ flag_rule (codes "journal") ∷ flag_rule (codes "resume") ∷ flag_rule (codes "resume-only") ∷ file_rule (codes "MAP") ∷ new_rule (codes "SCRIPT") ∷ [])
 
 -- convert --to FORM MAP INPUT
 abbrev pub convert_app : App

@@ -11,6 +11,7 @@ AsksBytes (Some word) n = (number_of word ≡ Some n) × (1048576 ≤ n) × (n �
 
 -- what is printed of the words
 abbrev pub word_complaint : TalkWordFault → List ℕ
+word_complaint fault.NoJournal = codes "error: '--journal' needs '--traces <DIR>'\n"
 word_complaint fault.NoRoll = codes "error: '--chapter-bytes' needs '--roll'\n"
 word_complaint fault.ChapterBytes = codes "error: invalid value for '--chapter-bytes <N>'\n"
 word_complaint fault.Planner = codes "error: invalid value for '--planner <NAME>'\n"

@@ -53,6 +53,7 @@ pub use fleet_journal::push_entries;
 pub use fleet_journal::push_head;
 pub use fleet_live::Given;
 pub use fleet_live::Journal;
+pub use fleet_live::Journaled;
 pub use fleet_live::LiveEnds;
 pub use fleet_live::Pipes;
 pub use fleet_live::Recalls;

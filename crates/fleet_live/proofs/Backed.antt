@@ -12,7 +12,7 @@ use Rattle.live_fleet.specs.Out.{Out, chapters_of, handed_by, text_at, told_by, 
 use Rattle.live_fleet.specs.Party.{Heard, Stage, with_out}
 use Rattle.live_fleet.specs.Went.{Went}
 use Rattle.live_fleet.proofs.Going.{runs-then}
-use Rattle.live_parts.specs.Journal.{with_first}
+use Rattle.fleet_talk.specs.Journal.{with_first}
 use Rattle.fleet_live.specs.declared.ends.Next.{Next}
 use Rattle.fleet_live.specs.declared.ends.Next.TheVariants.{Hand}
 use Rattle.fleet_live.specs.Loop.{HandsOn, Keeps, next_heard}

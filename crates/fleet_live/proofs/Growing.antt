@@ -17,7 +17,7 @@ use Rattle.fleet_world.specs.Talk.{Talk, TalkStep}
 use Rattle.fleet_talk.specs.Chapters.{ChapterView, chapter_in}
 use Rattle.live_fleet.specs.Act.{Act, Runs, did, full, grew, handed, said, told}
 use Rattle.live_fleet.specs.Out.{chapters_of}
-use Rattle.live_parts.specs.Journal.{with_first}
+use Rattle.fleet_talk.specs.Journal.{with_first}
 use Rattle.fleet_live.specs.Logged.{AreNumbered, IsAt, IsReady, LogView, count_at, first_of}
 
 -- a chapter has more entries

@@ -8,7 +8,7 @@ use Rattle.fleet_history.specs.declared.history.Chapter.{Chapter}
 use Rattle.fleet_history.specs.History.{History, history_of}
 use Rattle.fleet_core.specs.Core.{World}
 use Rattle.fleet_talk.specs.Chapters.{ChapterView, chapter_in, chapter_shown}
-use Rattle.live_parts.specs.Journal.{with_first}
+use Rattle.fleet_talk.specs.Journal.{with_first}
 use Rattle.live_parts.specs.Kept.{AreSound}
 use Rattle.fleet_live.specs.Logged.{AreNumbered, HasAll, IsAt, IsReady, LogView, count_at, first_of}
 

@@ -10,7 +10,7 @@ use Rattle.live_fleet.specs.Out.{chapters_of, text_at, told_to}
 use Rattle.live_fleet.specs.Party.{Heard, Stage}
 use Rattle.live_parts.specs.declared.stop.Stop.{Stop}
 use Rattle.live_parts.specs.declared.stop.Stop.TheVariants as stop
-use Rattle.live_parts.specs.Journal.{with_first}
+use Rattle.fleet_talk.specs.Journal.{with_first}
 use Rattle.fleet_live.specs.Loop.{told_in_all}
 
 -- ---- how far it is

@@ -36,5 +36,7 @@ mod wake;
 mod writing;
 
 pub use live::keep_live;
-pub use live_parts::{Given, Journal, LiveEnds, LiveSettings, Pipes, Recalls, read_period};
+pub use live_parts::{
+    Given, Journal, Journaled, LiveEnds, LiveSettings, Pipes, Recalls, read_period,
+};
 pub use resuming::resume_live;

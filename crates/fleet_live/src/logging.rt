@@ -4,7 +4,7 @@ ghost use Rattle.std.specs.Prelude.{◌≡◌, ◌≤◌, ◌++◌, ◌∷◌, [
 ghost use Rattle.std.specs.declared.alloc.Global.{Global};
 ghost use Rattle.fleet_history.specs.History.{history_of};
 ghost use Rattle.fleet_talk.specs.Chapters.{ChapterView, chapter_shown};
-ghost use Rattle.live_parts.specs.Journal.{with_first};
+ghost use Rattle.fleet_talk.specs.Journal.{with_first};
 ghost use Rattle.live_parts.specs.Kept.{AreSound, IsKeepable};
 ghost use Rattle.fleet_live.specs.Logged.{HasAll, IsAt, IsReady, count_at, is_due, log_view, stop_for, with_all};
 

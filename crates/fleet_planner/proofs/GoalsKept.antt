@@ -1,14 +1,14 @@
 -- The goals that a planner keeps stay those of the history after each entry.
-use Rattle.std.proofs.Common.{◌≡◌, ℕ, zero, suc, ◌<◌, ◌↔◌, List, [], ◌∷◌, ◌++◌, length, map, get_or, cond, Bool, true, false, Option, Some, None, replicate, sym, refl, ap, ◌∙◌, subst, arith, inl, inr}
+use Rattle.std.proofs.Common.{◌≡◌, ℕ, zero, suc, ◌<◌, ◌↔◌, List, [], ◌∷◌, ◌++◌, length, map, get_or, cond, Bool, true, false, Option, Some, None, IsSome, replicate, sym, refl, ap, ◌∙◌, subst, arith, inl, inr}
 use Rattle.std.specs.Prelude.{IsTrue, unwrap_or, slice_get, slice_set, slice_index, slice_index_or}
 use Rattle.std.specs.List.{range_with_len}
 use Rattle.std.proofs.lemmas.List.{append-nil, length-map, length-set, length-replicate, get_or_past, get_or-set_same, get_or-set_other, ext_get_or}
 use Rattle.std.proofs.lemmas.List.FromFn.{length-range_with_len}
-use Rattle.std.proofs.lemmas.Bool.{cases_eq, cases_lt, cases_Bool, eq-eqb, ne_eqb}
+use Rattle.std.proofs.lemmas.Bool.{cases_eq, cases_lt, cases_Bool, eq-eqb, ne_eqb, false≢true}
 use Rattle.fleet_grid.specs.Floor.{Floor, IsFloor, IsNeighbour}
 use Rattle.fleet_grid.specs.Walk.{IsBridgeless}
 use Rattle.fleet_field.specs.Store.{Keeps}
-use Rattle.fleet_planner.specs.Courses.{Courses, goals_of, AreOn}
+use Rattle.fleet_planner.specs.Courses.{Courses, goal, goals_of, AreOn}
 use Rattle.fleet_hooks.specs.declared.law.TieLaw.{TieLaw}
 use Rattle.fleet_queue.specs.declared.errand.Errand.{Errand}
 use Rattle.fleet_queue.specs.Queue.{Queue}
@@ -29,6 +29,7 @@ use Rattle.fleet_history.specs.Waits.{wait, wait_for}
 use Rattle.fleet_history.proofs.Legal.{accepted-rule, accepted-robot}
 use Rattle.fleet_history.proofs.Next.{next-robots, start-front}
 use Rattle.fleet_planner.specs.Counted.{goal_ticked}
+use Rattle.fleet_planner.specs.Searched.{AreMissing, IsSearch, Lacks}
 use Rattle.fleet_planner.specs.Planned.{waits, goals, cell_of, IsPlanned, IsAdvancingTick}
 use Rattle.fleet_planner.proofs.Goals.{planned-advances}
 use Rattle.fleet_planner.proofs.Lists.{item_of}
@@ -264,3 +265,24 @@ idle-is h ws same = (
 -- there is a goal for each robot
 pub aims-count : {A : Type 0} (h : History A) (aims : Courses) → goals_of aims ≡ goals h → length (goals_of aims) ≡ robots h
 aims-count h aims same = ap length same ∙ length-by_robot (robots h) (λ r. cell_of (front h r))
+
+-- nobody who has no errand has a goal
+pub idle-goal : {A : Type 0} (h : History A) (aims : Courses) → goals_of aims ≡ goals h → IsIdle h → (r : ℕ) → goal aims r ≡ None
+idle-goal h aims same idle r = ap (λ (gs : List (Option ℕ)). slice_index_or gs r None) same ∙ elim (cases_lt r (robots h)) [
+  | inl l ↦ item_of (λ k. cell_of (front h k)) (robots h) r l ∙ ap cell_of (idle r l)
+  | inr l ↦ get_or_past (goals h) r None (omega (arith, l, length-by_robot (robots h) (λ k. cell_of (front h k))))
+]
+
+none-lacks : {A : Type 0} (m : Floor) (h : History A) (aims : Courses) (cells : List ℕ) (r : ℕ) → goals_of aims ≡ goals h → IsIdle h → Lacks m aims cells r → ⊥
+none-lacks m h aims cells r same idle lacks = false≢true (subst IsSome (idle-goal h aims same idle r) lacks.goal)
+
+-- where nobody has an errand, nothing is searched, and nothing is missing
+pub idle-search : {A : Type 0} (m : Floor) (h : History A) (old new : Courses) (cells : List ℕ) (searched : Bool) → goals_of old ≡ goals h → IsIdle h → IsSearch m cells old new searched → searched ≡ false
+idle-search m h old new cells searched same idle is = elim (cases_Bool searched) [
+  | inl t ↦ (let one = is.one t in absurd (none-lacks m h old cells one.0 same idle one.1))
+  | inr f ↦ f
+]
+
+pub idle-missing : {A : Type 0} (m : Floor) (h : History A) (aims : Courses) (cells : List ℕ) (count : ℕ) → goals_of aims ≡ goals h → IsIdle h → AreMissing m aims cells count → count ≡ 0
+idle-missing m h aims cells zero same idle are = refl
+idle-missing m h aims cells (suc n) same idle are = (let some = are.some (omega arith) in absurd (none-lacks m h aims cells some.0 same idle some.1))

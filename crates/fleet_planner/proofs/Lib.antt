@@ -9,6 +9,7 @@ pub mod Lists
 pub mod Longest
 pub mod Lenders
 pub mod Ticked
+pub mod Told
 pub mod Refused
 pub mod GoalsKept
 pub mod GoalChanges

@@ -7,6 +7,7 @@ pub use Rattle.fleet_pibt.specs.Advancing
 pub use Rattle.fleet_pibt.specs.Ties
 pub mod Aims
 pub mod Courses
+pub mod Searched
 pub mod Keys
 pub mod Turned
 pub mod Planned

@@ -7,9 +7,11 @@ ghost use Rattle.fleet_grid.specs.Ways.{AreNearer, AreOpen};
 ghost use Rattle.fleet_field.specs.Growing.{Growth, IsGrown};
 ghost use Rattle.fleet_planner.specs.Aims.{AreOn as AreSharedOn, goal as shared_goal};
 ghost use Rattle.fleet_planner.specs.Courses.{goals_of, goal, away, way_to, first_of, own_goal, growth_in, AreOn, AreStill};
+ghost use Rattle.fleet_planner.specs.Searched.{AreMissing, IsSearch};
 ghost use Rattle.fleet_planner.specs.Turned.{turned, AreFloorTurns, AreKnownTurns};
 
 use crate::aims::Aims;
+use crate::searching::{count_lacking, first_lacking, search_own};
 use crate::started::{Started, place_own};
 use crate::turns::GoalChange;
 use fleet_field::{FieldCache, GrowingField};
@@ -159,6 +161,35 @@ impl<A: Allocator + Copy> Courses<A> {
         place_own(&mut self.own, &mut self.started.own, turns);
         self.started.recycle();
         Ok(())
+    }
+
+    /// Searches one robot's own field until it tells the ways from the robot's cell, as a step from these cells would,
+    /// and returns whether some robot's field did not. The only error is out of memory; then the search goes on from
+    /// there when it is asked again.
+    pub fn search_one<B: Allocator + Copy>(
+        &mut self,
+        grid: &Grid<B>,
+        cells: &[u32],
+    ) -> Result<bool, AllocError>
+        requires { AreOn grid.now self.old }
+        ensures search { IfOk result (λ searched. IsSearch grid.now cells.now self.old self.new searched) }
+        ensures on { AreOn grid.now self.new }
+        ensures still { AreStill self.old self.new }
+    {
+        let Some(robot) = first_lacking(&self.own, grid, cells) else {
+            return Ok(false);
+        };
+        search_own(&mut self.own[robot], grid, cells[robot])?;
+        Ok(true)
+    }
+
+    /// How many robots' own fields do not tell the ways from the robots' cells yet. A step from these cells searches
+    /// each of them.
+    pub fn missing<B: Allocator + Copy>(&self, grid: &Grid<B>, cells: &[u32]) -> usize
+        requires { AreOn grid.now self.now }
+        ensures { AreMissing grid.now self.now cells.now result }
+    {
+        count_lacking(&self.own, grid, cells)
     }
 }
 

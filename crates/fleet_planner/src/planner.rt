@@ -35,7 +35,7 @@ pub const KEPT_BYTES: usize = 256 << 20;
 /// What each robot aims at, the means to plan a step, and the fields of goals that no robot has any more.
 #[derive(Drop)]
 pub struct Planner<A: Allocator + Copy = Global> {
-    aims: Courses<A>,
+    pub(crate) aims: Courses<A>,
     stepper: Stepper<A>,
     bridgeless: bool,
     cache: FieldCache<A>,

@@ -18,6 +18,7 @@ pub mod Once
 pub mod Open
 pub mod Acts
 pub mod Chapters
+pub mod Journal
 pub mod Talked
 pub mod Said
 pub mod Conversation

@@ -26,6 +26,7 @@ use crate::heading::hear_head;
 use crate::open_fleet::OpenFleet;
 use crate::opening::open_planned;
 use crate::pen::Pen;
+use crate::writing::back_up;
 use fleet_history::Chapter;
 use std::alloc::{Alloc, Global};
 use std::io::{Read, Write};
@@ -106,6 +107,7 @@ fn hold<R: Alloc<A = Global>, I: Read, W: Write, S: ChapterSink>(
                 };
                 let entrance = Entrance { first, door: &door };
                 let ended = go_on(rt, &mut fleet, ends, &mut bytes, pen, entrance);
+                back_up(&fleet.session, &mut ends.sink, pen);
                 close(fleet, &mut ends.sink, ended)
             }
             Err(fault) => Err(fault),

@@ -24,11 +24,12 @@ use crate::open_fleet::OpenFleet;
 use crate::pen::Pen;
 use crate::plays::turned;
 use crate::reading::next_line;
-use crate::writing::{write_if_due, write_if_full};
+use crate::writing::{tell_if_due, tell_if_full};
 use std::alloc::{Alloc, Global};
 use std::io::{Read, Write};
 
-/// Does once what a line asks. A chapter that is handed out for it is kept before that is said.
+/// Does once what a line asks. A chapter that is handed out for it is brought down to the journal and kept before that is
+/// said.
 fn do_once<R: Alloc<A = Global>, S: ChapterSink>(
     rt: &R,
     fleet: &mut OpenFleet,
@@ -45,6 +46,8 @@ fn do_once<R: Alloc<A = Global>, S: ChapterSink>(
 {
     match hear(rt, fleet, pen, line, roominess)? {
         Some(chapter) => {
+            // After a fault nothing more is told.
+            let _is_logged = sink.log(&chapter);
             sink.keep(&chapter)?;
             Ok(turned(rt, fleet, pen, line, &chapter)?)
         }
@@ -72,7 +75,7 @@ fn answer<R: Alloc<A = Global>, I, W: Write, S: ChapterSink>(
 {
     for _ in 0..times(line.asked) {
         do_once(rt, fleet, &mut ends.sink, pen, line, roominess)?;
-        write_if_full(pen, &mut ends.output)?;
+        tell_if_full(&fleet.session, ends, pen)?;
     }
     Ok(pen.say_end(rt.alloc(), line)?)
 }
@@ -108,7 +111,7 @@ pub(crate) fn go_on<R: Alloc<A = Global>, I: Read, W: Write, S: ChapterSink>(
             return Ok(());
         }
         answer(rt, fleet, ends, pen, line, &entrance.door.roominess)?;
-        write_if_due(ends, pen)?;
+        tell_if_due(&fleet.session, ends, pen)?;
         if !next_line(&mut ends.input, pen, bytes)? {
             return Ok(());
         }

@@ -1,6 +1,6 @@
 //! Answers that are not written yet.
 
-ghost use Rattle.std.specs.Prelude.{◌≡◌, ◌++◌, [], ◌∷◌, IsTrue, OnOk, OnErr, string_bytes, take};
+ghost use Rattle.std.specs.Prelude.{◌≡◌, ◌++◌, [], ◌∷◌, IsTrue, OnOk, OnErr, false, string_bytes, take, true};
 ghost use Rattle.fleet_text.specs.Transfer.{AppendsPrefix};
 ghost use Rattle.fleet_talk.specs.Says.{marked, Says};
 ghost use Rattle.fleet_talk.specs.Said.{IsAdded, IsKept, under, bad_said, end_said};
@@ -20,16 +20,20 @@ const MOST_TEXT: usize = 65_536;
 pub(crate) struct Pen {
     pub(crate) settings: Settings,
     pub(crate) out: Vec<u8>,
+    /// Whether nothing may be written any more.
+    pub(crate) is_mute: bool,
 }
 
 impl Pen {
     pub(crate) fn new(alloc: Global, settings: Settings) -> Pen
         ensures settings { result.settings ≡ settings }
         ensures out { result.out.items ≡ [] }
+        ensures mute { result.is_mute ≡ false }
     {
         Pen {
             settings,
             out: Vec::new(alloc),
+            is_mute: false,
         }
     }
 
@@ -88,15 +92,16 @@ impl Pen {
         self.out.len() >= MOST_TEXT
     }
 
-    /// Writes all answers, and returns whether the writer took them. After that none waits: a text that a writer took
-    /// in part is not written again.
+    /// Writes all answers, unless nothing may be written, and returns whether the writer took them. After that none waits:
+    /// a text that a writer took in part is not written again.
     pub(crate) fn write_out<W: Write>(&mut self, output: &mut W) -> bool
         ensures prefix { AppendsPrefix (W.contents output.old) (W.contents output.new) self.old.out.items }
         ensures whole { IsTrue result → Says (W.contents output.old) (W.contents output.new) self.old.out.items self.new.out.items [] }
         ensures waits { self.new.out.items ≡ [] }
         ensures settings { self.new.settings ≡ self.old.settings }
+        ensures mute { self.old.is_mute ≡ true → W.contents output.new ≡ W.contents output.old }
     {
-        let written = write_whole(output, &self.out);
+        let written = !self.is_mute && write_whole(output, &self.out);
         self.out.clear();
         written
     }

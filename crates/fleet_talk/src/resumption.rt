@@ -31,6 +31,7 @@ use crate::open_fleet::OpenFleet;
 use crate::pen::Pen;
 use crate::reading::next_line;
 use crate::resuming::{ResumeFault, reopen};
+use crate::writing::back_up;
 use fleet_history::Chapter;
 use fleet_world::Session;
 use std::alloc::{Alloc, Global};
@@ -89,6 +90,7 @@ fn hold_open<R: Alloc<A = Global>, I: Read, W: Write, S: ChapterSink>(
         limited: false,
     };
     let ended = answer_all(rt, &mut fleet, ends, pen, door);
+    back_up(&fleet.session, &mut ends.sink, pen);
     close(fleet, &mut ends.sink, ended)
 }
 

@@ -1,14 +1,15 @@
 //! When what was said is written.
 
-ghost use Rattle.std.specs.Prelude.{◌≡◌, [], OnOk, IfErr};
+ghost use Rattle.std.specs.Prelude.{◌≡◌, ◌≤◌, [], OnOk, IfErr};
 ghost use Rattle.std.specs.Io.Buffered.{reader_buffer};
 ghost use Rattle.fleet_talk.specs.Broken.{SaysUntil};
 ghost use Rattle.fleet_talk.specs.Due.{IsDone, has_line};
 ghost use Rattle.fleet_talk.specs.Says.{Says};
 
-use crate::ends::Ends;
+use crate::ends::{ChapterSink, Ends};
 use crate::fault::TalkFault;
 use crate::pen::Pen;
+use fleet_world::Session;
 use std::io::{Read, Write};
 
 /// Writes what was said.
@@ -23,18 +24,6 @@ fn write_now<W: Write>(pen: &mut Pen, output: &mut W) -> Result<(), TalkFault>
     } else {
         Err(TalkFault::Output)
     }
-}
-
-/// Writes what was said if much waits.
-pub(crate) fn write_if_full<W: Write>(pen: &mut Pen, output: &mut W) -> Result<(), TalkFault>
-    ensures says { OnOk result (Says (W.contents output.old) (W.contents output.new) pen.old.out.items pen.new.out.items []) }
-    ensures broken { IfErr result (λ fault. SaysUntil fault (W.contents output.old) (W.contents output.new) pen.old.out.items pen.new.out.items []) }
-    ensures settings { pen.new.settings ≡ pen.old.settings }
-{
-    if !pen.is_full() {
-        return Ok(());
-    }
-    write_now(pen, output)
 }
 
 /// Whether a whole line is among the bytes.
@@ -61,4 +50,75 @@ pub(crate) fn write_if_due<I: Read, W: Write, S>(
         return Ok(());
     }
     write_now(pen, &mut ends.output)
+}
+
+/// Has the sink bring down all entries of the fleet's chapter, if something waits to be written. Where it cannot, nothing
+/// is written any more.
+pub(crate) fn back_up<S: ChapterSink>(session: &Session, sink: &mut S, pen: &mut Pen)
+    requires { 0 ≤ session.now.world.core.number }
+    ensures kept { S.kept sink.new ≡ S.kept sink.old }
+    ensures out { pen.new.out.items ≡ pen.old.out.items }
+    ensures settings { pen.new.settings ≡ pen.old.settings }
+{
+    if !pen.out.is_empty() && !sink.log(session.world.chapter()) {
+        pen.is_mute = true;
+    }
+}
+
+/// Writes what was said of an open fleet, once the sink has the entries that it follows from.
+fn tell_now<I, W: Write, S: ChapterSink>(
+    session: &Session,
+    ends: &mut Ends<I, W, S>,
+    pen: &mut Pen,
+) -> Result<(), TalkFault>
+    requires { 0 ≤ session.now.world.core.number }
+    ensures says { OnOk result (Says (W.contents ends.old.output) (W.contents ends.new.output) pen.old.out.items pen.new.out.items []) }
+    ensures broken { IfErr result (λ fault. SaysUntil fault (W.contents ends.old.output) (W.contents ends.new.output) pen.old.out.items pen.new.out.items []) }
+    ensures waits { pen.new.out.items ≡ [] }
+    ensures settings { pen.new.settings ≡ pen.old.settings }
+    ensures input { ends.new.input ≡ ends.old.input }
+    ensures kept { S.kept ends.new.sink ≡ S.kept ends.old.sink }
+{
+    back_up(session, &mut ends.sink, pen);
+    write_now(pen, &mut ends.output)
+}
+
+/// The same, if much waits.
+pub(crate) fn tell_if_full<I, W: Write, S: ChapterSink>(
+    session: &Session,
+    ends: &mut Ends<I, W, S>,
+    pen: &mut Pen,
+) -> Result<(), TalkFault>
+    requires { 0 ≤ session.now.world.core.number }
+    ensures says { OnOk result (Says (W.contents ends.old.output) (W.contents ends.new.output) pen.old.out.items pen.new.out.items []) }
+    ensures broken { IfErr result (λ fault. SaysUntil fault (W.contents ends.old.output) (W.contents ends.new.output) pen.old.out.items pen.new.out.items []) }
+    ensures settings { pen.new.settings ≡ pen.old.settings }
+    ensures input { ends.new.input ≡ ends.old.input }
+    ensures kept { S.kept ends.new.sink ≡ S.kept ends.old.sink }
+{
+    if !pen.is_full() {
+        return Ok(());
+    }
+    tell_now(session, ends, pen)
+}
+
+/// The same, if no whole line is in the reader's buffer, or if much text waits.
+pub(crate) fn tell_if_due<I: Read, W: Write, S: ChapterSink>(
+    session: &Session,
+    ends: &mut Ends<I, W, S>,
+    pen: &mut Pen,
+) -> Result<(), TalkFault>
+    requires { 0 ≤ session.now.world.core.number }
+    ensures says { OnOk result (Says (W.contents ends.old.output) (W.contents ends.new.output) pen.old.out.items pen.new.out.items []) }
+    ensures broken { IfErr result (λ fault. SaysUntil fault (W.contents ends.old.output) (W.contents ends.new.output) pen.old.out.items pen.new.out.items []) }
+    // So no answer waits while the next line has to be waited for.
+    ensures done { IsDone (reader_buffer ends.old.input) pen.new.out.items }
+    ensures settings { pen.new.settings ≡ pen.old.settings }
+    ensures input { ends.new.input ≡ ends.old.input }
+    ensures kept { S.kept ends.new.sink ≡ S.kept ends.old.sink }
+{
+    if has_line(ends.input.buffer()) {
+        return tell_if_full(session, ends, pen);
+    }
+    tell_now(session, ends, pen)
 }

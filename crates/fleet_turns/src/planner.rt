@@ -6,6 +6,7 @@ ghost use Rattle.fleet_grid.specs.Step.{IsPlacement};
 ghost use Rattle.fleet_pibt.specs.Door.{IsSteppedWithDoor};
 ghost use Rattle.fleet_pibt.specs.Goals.{AreGoals};
 ghost use Rattle.fleet_planner.specs.Courses.{goals_of, AreOn, AreStill};
+ghost use Rattle.fleet_planner.specs.Searched.{AreMissing, IsSearch};
 ghost use Rattle.fleet_planner.specs.Turned.{turned, AreFloorTurns, AreKnownTurns};
 ghost use Rattle.fleet_turns.specs.Planning.{IsNewPlanner, IsPlannerOf, IsReady};
 ghost use Rattle.turns_law.specs.Turn.{IsTurn};
@@ -206,6 +207,27 @@ impl<A: Allocator + Copy> TurnPlanner<A> {
         self.guide.courses.turn(cache, grid, cells, turns)?;
         put(&mut self.goals, turns);
         Ok(())
+    }
+
+    /// Searches one robot's own field as far as a plan from these cells will ask it, as `Courses::search_one` does.
+    pub fn search_one(&mut self, grid: &Grid<A>, cells: &[u32]) -> Result<bool, AllocError>
+        requires { AreOn grid.now self.old.courses }
+        ensures search { IfOk result (λ searched. IsSearch grid.now cells.now self.old.courses self.new.courses searched) }
+        ensures on { AreOn grid.now self.new.courses }
+        ensures still { AreStill self.old.courses self.new.courses }
+        ensures turns { self.new.turns ≡ self.old.turns }
+        ensures stepper { self.new.stepper ≡ self.old.stepper }
+    {
+        self.guide.courses.search_one(grid, cells)
+    }
+
+    /// How many robots' own fields are not searched yet as far as a plan from these cells may ask them. The field of a
+    /// robot that is lent a turn counts too, though the plan does not ask it.
+    pub fn missing(&self, grid: &Grid<A>, cells: &[u32]) -> usize
+        requires { AreOn grid.now self.now.courses }
+        ensures { AreMissing grid.now self.now.courses cells.now result }
+    {
+        self.guide.courses.missing(grid, cells)
     }
 
     /// Writes to `to` where the robots go from their cells in the tick that is being made, and returns what was lent for it. Their

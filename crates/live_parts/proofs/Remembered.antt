@@ -4,7 +4,7 @@ use Rattle.std.specs.declared.alloc.Global.{Global}
 use Rattle.fleet_talk.specs.Chapters.{ChapterView, chapter_shown}
 use Rattle.live_parts.specs.declared.given.Given.{Given}
 use Rattle.live_parts.specs.Given.{logged_after, logged_by, with_given, without_last}
-use Rattle.live_parts.specs.Journal.{first_part, with_first}
+use Rattle.fleet_talk.specs.Journal.{first_part, with_first}
 
 last_off : {A : Type 0} (xs : List A) (x : A) → without_last (xs ++ x ∷ []) ≡ xs
 last_off [] x = refl

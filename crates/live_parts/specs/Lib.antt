@@ -4,7 +4,7 @@ pub mod Demand
 pub mod Figures
 pub mod Given
 pub mod Histogram
-pub mod Journal
+pub mod Journaled
 pub mod Kept
 pub mod Notices
 pub mod Period

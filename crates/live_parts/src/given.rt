@@ -1,10 +1,10 @@
 //! What a journal was given, in proofs alone.
 
-ghost use Rattle.std.specs.Prelude.{◌≡◌, ◌∷◌, ◌++◌, [], List, OnOk};
+ghost use Rattle.std.specs.Prelude.{◌≡◌, ◌∷◌, ◌++◌, [], List, OnErr, OnOk};
 ghost use Rattle.std.specs.declared.alloc.Global.{Global};
 ghost use Rattle.fleet_talk.specs.Chapters.{ChapterView, chapter_shown};
 ghost use Rattle.live_parts.specs.Given.{logged_by};
-ghost use Rattle.live_parts.specs.Journal.{with_first};
+ghost use Rattle.fleet_talk.specs.Journal.{with_first};
 
 use fleet_history::Chapter;
 use std::alloc::AllocError;
@@ -21,8 +21,9 @@ pub struct Given {
 impl Given {
     /// Remembers that a journal was given a chapter's entries from this one on.
     pub fn note(given: &mut Vec<Given>, chapter: &Chapter, from: usize) -> Result<(), AllocError>
-        ensures { OnOk result ((before : List (ChapterView Global)) → logged_by given.old.items ≡ with_first before (chapter_shown chapter.now) from
+        ensures ok { OnOk result ((before : List (ChapterView Global)) → logged_by given.old.items ≡ with_first before (chapter_shown chapter.now) from
             → logged_by given.new.items ≡ before ++ chapter_shown chapter.now ∷ []) }
+        ensures err { OnErr result (given.new.items ≡ given.old.items) }
     {
         let (chapter, from) = (Snapshot::of(chapter), Snapshot::of(&from));
         given.push(Given { chapter, from })?;

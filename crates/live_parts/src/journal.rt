@@ -1,10 +1,9 @@
 //! Where a fleet's entries go before anything is told that follows from them.
 
-ghost use Rattle.std.specs.Prelude.{◌≡◌, ◌≤◌, ◌∷◌, ◌++◌, [], List, OnOk, length};
+ghost use Rattle.std.specs.Prelude.{◌≡◌, ◌∷◌, ◌++◌, [], List, OnOk, OnErr};
 ghost use Rattle.std.specs.declared.alloc.Global.{Global};
-ghost use Rattle.fleet_history.specs.History.{history_of};
 ghost use Rattle.fleet_talk.specs.Chapters.{ChapterView, chapter_shown};
-ghost use Rattle.live_parts.specs.Journal.{with_first};
+ghost use Rattle.fleet_talk.specs.Journal.{with_first};
 ghost use Rattle.live_parts.specs.Kept.{IsKeepable};
 
 use fleet_history::Chapter;
@@ -19,8 +18,7 @@ pub trait Journal {
     /// the first on the journal of the chapter begins, with its opening. After a fault nothing may be told that follows
     /// from these entries, and no more are given.
     fn log(&mut self, chapter: &Chapter, from: usize) -> Result<(), SinkFault>
-        requires few { from ≤ length (history_of chapter.now).entries }
-        requires first { (before : List (ChapterView Global)) × (logged self.old ≡ with_first before (chapter_shown chapter.now) from) }
         requires sound { IsKeepable (chapter_shown chapter.now) }
-        ensures ok { OnOk result ((before : List (ChapterView Global)) → logged self.old ≡ with_first before (chapter_shown chapter.now) from → logged self.new ≡ before ++ chapter_shown chapter.now ∷ []) };
+        ensures ok { OnOk result ((before : List (ChapterView Global)) → logged self.old ≡ with_first before (chapter_shown chapter.now) from → logged self.new ≡ before ++ chapter_shown chapter.now ∷ []) }
+        ensures err { OnErr result (logged self.new ≡ logged self.old) };
 }

@@ -9,6 +9,7 @@ ghost use Rattle.fleet_grid.specs.Walk.{IsBridgeless};
 ghost use Rattle.fleet_history.specs.History.{History};
 ghost use Rattle.fleet_planner.specs.Aimed.{IsAimed, MayPlan, MayBegin, begun, begun_goals, goals_ticked};
 ghost use Rattle.fleet_planner.specs.Courses.{goals_of, AreOn};
+ghost use Rattle.fleet_planner.specs.Searched.{AreMissing, IsSearch};
 ghost use Rattle.fleet_state.specs.State.{IsStateOf, robot_count};
 ghost use Rattle.mover.specs.Moving.{HasTurns, IsManner, IsNewMover, IsTickBy};
 
@@ -198,6 +199,36 @@ impl<A: Allocator + Copy> Mover<A> {
         match &mut self.kind {
             Kind::Plain(planner) => planner.turn(grid, state, to),
             Kind::Turns(fleet) => fleet.turn(grid, state, to),
+        }
+    }
+
+    /// Searches one robot's own field as far as the plan of the next tick will ask it, and returns whether some robot's
+    /// field was not searched so far. The only error is out of memory.
+    pub fn search_one(&mut self, grid: &Grid<A>, state: &FleetState<A>) -> Result<bool, AllocError>
+        requires { AreOn grid.now self.old.planner.aims }
+        ensures search { IfOk result (λ searched. IsSearch grid.now state.now.cells self.old.planner.aims self.new.planner.aims searched) }
+        ensures turns { self.new.turns ≡ self.old.turns }
+        ensures goals { goals_of self.new.planner.aims ≡ goals_of self.old.planner.aims }
+        ensures on { AreOn grid.now self.new.planner.aims }
+        ensures size { self.new.planner.size ≡ self.old.planner.size }
+        ensures bridge { self.new.planner.bridgeless ≡ self.old.planner.bridgeless }
+        ensures kept { self.new.planner.kept ≡ self.old.planner.kept }
+    {
+        match &mut self.kind {
+            Kind::Plain(planner) => planner.search_one(grid, state),
+            Kind::Turns(fleet) => fleet.search_one(grid, state),
+        }
+    }
+
+    /// How many robots' own fields are not searched yet as far as the plan of the next tick may ask them. In turns the
+    /// field of a robot that is lent one counts too, though the plan does not ask it.
+    pub fn missing(&self, grid: &Grid<A>, state: &FleetState<A>) -> usize
+        requires { AreOn grid.now self.now.planner.aims }
+        ensures { AreMissing grid.now self.now.planner.aims state.now.cells result }
+    {
+        match &self.kind {
+            Kind::Plain(planner) => planner.missing(grid, state),
+            Kind::Turns(fleet) => fleet.missing(grid, state),
         }
     }
 }

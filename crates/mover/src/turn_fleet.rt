@@ -7,6 +7,7 @@ ghost use Rattle.fleet_grid.specs.Floor.{Floor, IsFloor};
 ghost use Rattle.fleet_history.specs.History.{History};
 ghost use Rattle.fleet_planner.specs.Aimed.{MayPlan, MayBegin, begun, begun_goals, first_goals, goals_ticked};
 ghost use Rattle.fleet_planner.specs.Courses.{goals_of, AreOn};
+ghost use Rattle.fleet_planner.specs.Searched.{AreMissing, IsSearch};
 ghost use Rattle.fleet_state.specs.State.{IsStateOf, robot_count};
 ghost use Rattle.fleet_turns.specs.Planning.{IsPlannerOf};
 ghost use Rattle.turns_law.specs.Turns.{AreTurns};
@@ -113,6 +114,32 @@ impl<A: Allocator + Copy> TurnFleet<A> {
         ensures { self.new ≡ self.old }
     {
         Ok(())
+    }
+
+    /// Searches one robot's own field as far as the plan of the next tick will ask it, and returns whether some robot's
+    /// field was not searched so far.
+    pub(crate) fn search_one(
+        &mut self,
+        grid: &Grid<A>,
+        state: &FleetState<A>,
+    ) -> Result<bool, AllocError>
+        requires { AreOn grid.now self.old.aims }
+        ensures search { IfOk result (λ searched. IsSearch grid.now state.now.cells self.old.aims self.new.aims searched) }
+        ensures turns { self.new.turns ≡ self.old.turns }
+        ensures goals { goals_of self.new.aims ≡ goals_of self.old.aims }
+        ensures on { AreOn grid.now self.new.aims }
+        ensures size { self.new.size ≡ self.old.size }
+        ensures kept { self.new.kept ≡ self.old.kept }
+    {
+        self.planner.search_one(grid, state.place())
+    }
+
+    /// How many robots' own fields are not searched yet as far as the plan of the next tick may ask them.
+    pub(crate) fn missing(&self, grid: &Grid<A>, state: &FleetState<A>) -> usize
+        requires { AreOn grid.now self.now.aims }
+        ensures { AreMissing grid.now self.now.aims state.now.cells result }
+    {
+        self.planner.missing(grid, state.place())
     }
 
     /// Gives a robot a goal, which is a floor cell. The robots are on these cells.

@@ -37,6 +37,13 @@ pub(crate) const TRACES: Argument<'static> = Argument {
     help: "Write each chapter into this folder, as chapter-N.json",
 };
 
+/// To keep a journal.
+pub(crate) const JOURNAL: Argument<'static> = Argument {
+    name: "journal",
+    kind: Kind::Flag,
+    help: "Tell nothing before it is on the disk, so that it stands",
+};
+
 /// How long the text of a chapter may be.
 pub(crate) const CHAPTER_BYTES: Argument<'static> = Argument {
     name: "chapter-bytes",

@@ -5,7 +5,7 @@ ghost use Rattle.clap.specs.Words.{found_of, rows_of};
 ghost use Rattle.fleet_lib.specs.Asked.{IsLive};
 
 use crate::words::arguments::{
-    CHAPTER_BYTES, MAP, PLANNER, RESUME, RESUME_ONLY, ROOMY, SCRIPT, TRACES,
+    CHAPTER_BYTES, JOURNAL, MAP, PLANNER, RESUME, RESUME_ONLY, ROOMY, SCRIPT, TRACES,
 };
 use clap::ArgMatches;
 use command_words::{Argument, Kind, Word, has_flag, some_word_for, some_words_for, word_for};
@@ -106,11 +106,7 @@ pub(crate) const LIVE: Word<'static> = Word {
             kind: Kind::Value("TIME"),
             help: "Write a chapter at least so often, as 10s",
         },
-        Argument {
-            name: "journal",
-            kind: Kind::Flag,
-            help: "Tell nothing before it is on the disk, so that it stands",
-        },
+        JOURNAL,
         Argument {
             name: "recall",
             kind: Kind::Value("N"),

@@ -5,7 +5,7 @@ ghost use Rattle.clap.specs.Words.{found_of, rows_of};
 ghost use Rattle.fleet_lib.specs.Asked.{IsTalk};
 
 use crate::words::arguments::{
-    CHAPTER_BYTES, MAP, PLANNER, RESUME, RESUME_ONLY, ROOMY, SCRIPT, TRACES,
+    CHAPTER_BYTES, JOURNAL, MAP, PLANNER, RESUME, RESUME_ONLY, ROOMY, SCRIPT, TRACES,
 };
 use clap::ArgMatches;
 use command_words::{Argument, Kind, Word, has_flag, some_word_for, word_for};
@@ -19,6 +19,8 @@ pub struct Talk {
     pub script: Option<String>,
     /// The folder for the traces of chapters.
     pub traces: Option<String>,
+    /// Whether nothing is told before the entries that it follows from are on the disk.
+    pub journal: bool,
     /// Whether the fleet goes on from the last chapter in the folder.
     pub resume: bool,
     /// Whether it goes on, or is refused.
@@ -35,8 +37,8 @@ pub struct Talk {
     pub planner: Option<String>,
 }
 
-/// `talk [--marks] [--roll] [--chapter-bytes N] [--roomy] [--planner NAME] [--traces DIR] [--resume] [--resume-only] MAP
-/// [SCRIPT]`.
+/// `talk [--marks] [--roll] [--chapter-bytes N] [--roomy] [--planner NAME] [--traces DIR] [--journal] [--resume]
+/// [--resume-only] MAP [SCRIPT]`.
 pub(crate) const TALK: Word<'static> = Word {
     name: "talk",
     about: "Talks to a fleet: answers each line as soon as it is read",
@@ -56,6 +58,7 @@ pub(crate) const TALK: Word<'static> = Word {
         ROOMY,
         PLANNER,
         TRACES,
+        JOURNAL,
         RESUME,
         RESUME_ONLY,
         MAP,
@@ -76,6 +79,7 @@ pub(crate) fn talk_in(alloc: Global, matches: &ArgMatches<'_>) -> Result<Talk, A
         map,
         script,
         traces,
+        journal: has_flag(matches, "journal"),
         resume: has_flag(matches, "resume"),
         resume_only: has_flag(matches, "resume-only"),
         marks: has_flag(matches, "marks"),

@@ -55,7 +55,11 @@ pub(crate) struct Tray {
 }
 
 impl ChapterSink for Tray {
+    ghost use Rattle.fleet_talk.specs.Journal.{no_journal};
+
     ghost kept = { λ _. None };
+
+    ghost journal = { λ _. no_journal };
 
     fn keep(&mut self, chapter: &Chapter) -> Result<(), SinkFault> {
         if self.fails > 0 {
@@ -69,6 +73,10 @@ impl ChapterSink for Tray {
         let entries = chapter.entries.len() as u64;
         self.counts.entries.fetch_add(entries, Ordering::SeqCst);
         Ok(())
+    }
+
+    fn log(&mut self, _chapter: &Chapter) -> bool {
+        true
     }
 }
 

@@ -13,7 +13,11 @@ pub(crate) struct Tray {
 }
 
 impl ChapterSink for Tray {
+    ghost use Rattle.fleet_talk.specs.Journal.{no_journal};
+
     ghost kept = { λ _. None };
+
+    ghost journal = { λ _. no_journal };
 
     fn keep(&mut self, chapter: &Chapter) -> Result<(), SinkFault> {
         let next = self.first.saturating_add(self.taken);
@@ -22,5 +26,9 @@ impl ChapterSink for Tray {
         }
         self.taken = self.taken.saturating_add(1);
         Ok(())
+    }
+
+    fn log(&mut self, _chapter: &Chapter) -> bool {
+        true
     }
 }

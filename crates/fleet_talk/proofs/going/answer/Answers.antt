@@ -1,10 +1,12 @@
 -- What the line asks is done once more, as often as it asks it, and then its answer ends.
-use Rattle.std.proofs.Common.{◌≡◌, ◌∙◌, [], ◌++◌, refl, ap, arith, subst}
+use Rattle.std.proofs.Common.{◌≡◌, ◌∙◌, List, [], ◌++◌, Option, refl, sym, ap, arith, subst}
+use Rattle.std.specs.declared.alloc.Global.{Global}
 use Rattle.fleet_world.specs.Keeps.{talk}
 use Rattle.fleet_talk.specs.declared.ends.Settings.{Settings}
 use Rattle.fleet_talk.specs.declared.fault.TalkFault.TheVariants.{NoMemory}
 use Rattle.fleet_talk.specs.Act.{act_asked, acts_asked, acts_end, times_asked}
 use Rattle.fleet_talk.specs.Acts.{Does}
+use Rattle.fleet_talk.specs.Chapters.{ChapterView, KeepsTurned}
 use Rattle.fleet_talk.specs.Lines.{line_shown}
 use Rattle.fleet_talk.specs.Open.{fleet_of}
 use Rattle.fleet_talk.specs.Said.{end_said}
@@ -32,11 +34,12 @@ loop-preserved g c =
       talks = (
         text ++ more,
         talks-more c.args.pen.now.settings.roll (fleet_of c.args.fleet.now) (fleet_of c.loop.fleet) (fleet_of c.do_once.new.fleet) act c.loop.counter text more talks does,
-        says-then _ _ _ _ _ _ text more says (says-written _ _ _ _ _ more added.out c.in_ok-write_if_full.ensures.says),
+        says-then _ _ _ _ _ _ text more says (says-written _ _ _ _ _ more added.out c.in_ok-tell_if_full.ensures.says),
       );
-      kept = keeps-then (g.S.ChapterSink.kept c.args.ends.now.sink) (g.S.ChapterSink.kept c.loop.ends.sink) (g.S.ChapterSink.kept c.do_once.new.sink) (talk c.args.fleet.now.session) (talk c.loop.fleet.session) (talk c.do_once.new.fleet.session) c.loop.invariant.kept c.in_ok-do_once.ensures.kept;
-      settings = c.write_if_full.ensures.settings ∙ (added.settings ∙ c.loop.invariant.settings);
-      input = c.loop.invariant.input;
+      kept = subst (λ (known : Option (List (ChapterView Global))). KeepsTurned (g.S.ChapterSink.kept c.args.ends.now.sink) known (talk c.args.fleet.now.session) (talk c.do_once.new.fleet.session)) (sym c.tell_if_full.ensures.kept)
+          (keeps-then (g.S.ChapterSink.kept c.args.ends.now.sink) (g.S.ChapterSink.kept c.loop.ends.sink) (g.S.ChapterSink.kept c.do_once.new.sink) (talk c.args.fleet.now.session) (talk c.loop.fleet.session) (talk c.do_once.new.fleet.session) c.loop.invariant.kept c.in_ok-do_once.ensures.kept);
+      settings = c.tell_if_full.ensures.settings ∙ (added.settings ∙ c.loop.invariant.settings);
+      input = c.tell_if_full.ensures.input ∙ c.loop.invariant.input;
     }
 
 pub returns-in_err-do_once-clause-broken : goal.returns-in_err-do_once-clause-broken
@@ -49,18 +52,18 @@ returns-in_err-do_once-clause-broken g c =
     (until-asked fault c.args.pen.now.settings (fleet_of c.args.fleet.now) line c.times-end.result (g.W.Write.contents c.args.ends.now.output) (g.W.Write.contents c.loop.ends.output) c.args.pen.now.out.items c.do_once.new.pen.out.items c.times-end.ensures
     (until-times fault c.args.pen.now.settings.roll (fleet_of c.args.fleet.now) (fleet_of c.loop.fleet) act c.loop.counter c.times-end.result (g.W.Write.contents c.args.ends.now.output) (g.W.Write.contents c.loop.ends.output) c.args.pen.now.out.items c.loop.pen.out.items c.do_once.new.pen.out.items text c.loop-test.true talks says c.in_err-do_once.ensures.midway c.in_err-do_once.ensures.err.out))
 
-pub returns-in_err-write_if_full-clause-broken : goal.returns-in_err-write_if_full-clause-broken
-returns-in_err-write_if_full-clause-broken g c =
+pub returns-in_err-tell_if_full-clause-broken : goal.returns-in_err-tell_if_full-clause-broken
+returns-in_err-tell_if_full-clause-broken g c =
     let (text, talks, says) = c.loop.invariant.talks in
     let (more, did, added) = c.in_ok-do_once.ensures.ok in
     let line = line_shown c.args.line in
     let act = act_asked line c.args.line.asked in
-    let fault = c.in_err-write_if_full.field-0.0 in
+    let fault = c.in_err-tell_if_full.field-0.0 in
     let does = subst (λ (st : Settings). Does st.roll (fleet_of c.loop.fleet) act more (fleet_of c.do_once.new.fleet)) c.loop.invariant.settings did in
-    at-fault _ fault _ c.from_residual-in_err-write_if_full.ensures.1
-    (until-asked fault c.args.pen.now.settings (fleet_of c.args.fleet.now) line c.times-end.result (g.W.Write.contents c.args.ends.now.output) (g.W.Write.contents c.write_if_full.new.output) c.args.pen.now.out.items c.write_if_full.new.pen.out.items c.times-end.ensures
-    (until-times-written fault c.args.pen.now.settings.roll (fleet_of c.args.fleet.now) (fleet_of c.loop.fleet) (fleet_of c.do_once.new.fleet) act c.loop.counter c.times-end.result (g.W.Write.contents c.args.ends.now.output) (g.W.Write.contents c.loop.ends.output) (g.W.Write.contents c.write_if_full.new.output)
-    c.args.pen.now.out.items c.loop.pen.out.items c.do_once.new.pen.out.items c.write_if_full.new.pen.out.items text more c.loop-test.true talks says does added.out c.in_err-write_if_full.ensures.broken))
+    at-fault _ fault _ c.from_residual-in_err-tell_if_full.ensures.1
+    (until-asked fault c.args.pen.now.settings (fleet_of c.args.fleet.now) line c.times-end.result (g.W.Write.contents c.args.ends.now.output) (g.W.Write.contents c.tell_if_full.new.ends.output) c.args.pen.now.out.items c.tell_if_full.new.pen.out.items c.times-end.ensures
+    (until-times-written fault c.args.pen.now.settings.roll (fleet_of c.args.fleet.now) (fleet_of c.loop.fleet) (fleet_of c.do_once.new.fleet) act c.loop.counter c.times-end.result (g.W.Write.contents c.args.ends.now.output) (g.W.Write.contents c.loop.ends.output) (g.W.Write.contents c.tell_if_full.new.ends.output)
+    c.args.pen.now.out.items c.loop.pen.out.items c.do_once.new.pen.out.items c.tell_if_full.new.pen.out.items text more c.loop-test.true talks says does added.out c.in_err-tell_if_full.ensures.broken))
 
 pub returns-clause-talks : goal.returns-clause-talks
 returns-clause-talks g c =

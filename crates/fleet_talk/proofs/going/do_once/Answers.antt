@@ -1,5 +1,8 @@
 -- A chapter that was handed out was kept, and then said.
+use Rattle.std.proofs.Common.{List, [], ◌∷◌, Option, subst}
+use Rattle.std.specs.declared.alloc.Global.{Global}
 use Rattle.fleet_talk.specs.Act.{act_asked}
+use Rattle.fleet_talk.specs.Chapters.{Adds, ChapterView, chapter_shown}
 use Rattle.fleet_talk.specs.Lines.{line_shown}
 use Rattle.fleet_talk.specs.Open.{fleet_of}
 use Rattle.fleet_talk.proofs.Onces.{once-kept, once-turned}
@@ -13,4 +16,5 @@ returns-in_ok-turned-in-Some-clause-ok g c =
 pub returns-in_ok-turned-in-Some-clause-kept : goal.returns-in_ok-turned-in-Some-clause-kept
 returns-in_ok-turned-in-Some-clause-kept g c =
     once-kept c.args.pen.now.settings.roll (g.S.ChapterSink.kept c.args.sink.now) (g.S.ChapterSink.kept c.keep.new.self) (fleet_of c.args.fleet.now) (fleet_of c.hear.new.fleet) (fleet_of c.turned.new.fleet) (act_asked (line_shown c.args.line) c.args.line.asked) c.in_ok-chapter.field-0 c.in-Some.chapter
-    c.args.pen.now c.hear.new.pen c.in_ok-chapter.ensures.ok c.in-Some.is c.in_ok-keep-in-Some.ensures.ok c.in_ok-turned-in-Some.ensures.same
+    c.args.pen.now c.hear.new.pen c.in_ok-chapter.ensures.ok c.in-Some.is
+    (subst (λ (known : Option (List (ChapterView Global))). Adds known (g.S.ChapterSink.kept c.keep.new.self) (chapter_shown c.in-Some.chapter ∷ [])) c.log-is_logged.ensures.kept c.in_ok-keep-in-Some.ensures.ok) c.in_ok-turned-in-Some.ensures.same

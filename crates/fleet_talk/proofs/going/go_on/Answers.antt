@@ -32,41 +32,41 @@ returns-in_err-answer-clause-broken g c =
     (goes-broken c.args.pen.now.settings c.args.entrance.door.now.refused.marks.items (fleet_of c.args.fleet.now) (λ xs. acts_from c.args.pen.now.settings c.args.entrance.door.now.refused.marks.items c.args.entrance.first (c.args.bytes.now.items ∷ heard_lines xs)) (reader_remaining g.I.Read.remaining c.args.ends.now.input) (reader_remaining g.I.Read.remaining c.loop-number.ends.input) (fleet_of c.loop-number.fleet) c.loop-number.number c.loop-number.bytes.items (g.W.Write.contents c.args.ends.now.output) (g.W.Write.contents c.loop-number.ends.output) c.args.pen.now.out.items c.loop-number.pen.out.items c.loop-number.invariant.goes (line_shown c.line_let_in-line.result) fault (g.W.Write.contents c.answer.new.ends.output) c.answer.new.pen.out.items (c.line_let_in-line.ensures ∙ ap (line_let_in c.args.entrance.door.now.refused.marks.items c.loop-number.number) c.deref.ensures.value) (sym c.is_quit.ensures ∙ c.if-is_quit.false)
     (subst (λ (st : Settings). TalksUntil fault st.roll (fleet_of c.loop-number.fleet) (acts_on st (line_shown c.line_let_in-line.result)) (g.W.Write.contents c.loop-number.ends.output) (g.W.Write.contents c.answer.new.ends.output) c.loop-number.pen.out.items c.answer.new.pen.out.items) c.loop-number.invariant.settings c.in_err-answer.ensures.broken))
 
-pub returns-in_err-write_if_due-clause-broken : goal.returns-in_err-write_if_due-clause-broken
-returns-in_err-write_if_due-clause-broken g c =
-    let fault = c.in_err-write_if_due.field-0.0 in
+pub returns-in_err-tell_if_due-clause-broken : goal.returns-in_err-tell_if_due-clause-broken
+returns-in_err-tell_if_due-clause-broken g c =
+    let fault = c.in_err-tell_if_due.field-0.0 in
     let (text, talks, says) = c.in_ok-answer.ensures.talks in
-    at-fault _ fault _ c.from_residual-in_err-write_if_due.ensures.1
-    (goes-unwritten c.args.pen.now.settings c.args.entrance.door.now.refused.marks.items (fleet_of c.args.fleet.now) (λ xs. acts_from c.args.pen.now.settings c.args.entrance.door.now.refused.marks.items c.args.entrance.first (c.args.bytes.now.items ∷ heard_lines xs)) (reader_remaining g.I.Read.remaining c.args.ends.now.input) (reader_remaining g.I.Read.remaining c.loop-number.ends.input) (fleet_of c.loop-number.fleet) c.loop-number.number c.loop-number.bytes.items (g.W.Write.contents c.args.ends.now.output) (g.W.Write.contents c.loop-number.ends.output) c.args.pen.now.out.items c.loop-number.pen.out.items c.loop-number.invariant.goes (line_shown c.line_let_in-line.result) (c.line_let_in-line.ensures ∙ ap (line_let_in c.args.entrance.door.now.refused.marks.items c.loop-number.number) c.deref.ensures.value) (sym c.is_quit.ensures ∙ c.if-is_quit.false) (fleet_of c.answer.new.fleet) (g.W.Write.contents c.answer.new.ends.output) c.answer.new.pen.out.items text (subst (λ (st : Settings). Talks st.roll (fleet_of c.loop-number.fleet) (acts_on st (line_shown c.line_let_in-line.result)) text (fleet_of c.answer.new.fleet)) c.loop-number.invariant.settings talks) says fault (g.W.Write.contents c.write_if_due.new.ends.output) c.write_if_due.new.pen.out.items c.in_err-write_if_due.ensures.broken)
+    at-fault _ fault _ c.from_residual-in_err-tell_if_due.ensures.1
+    (goes-unwritten c.args.pen.now.settings c.args.entrance.door.now.refused.marks.items (fleet_of c.args.fleet.now) (λ xs. acts_from c.args.pen.now.settings c.args.entrance.door.now.refused.marks.items c.args.entrance.first (c.args.bytes.now.items ∷ heard_lines xs)) (reader_remaining g.I.Read.remaining c.args.ends.now.input) (reader_remaining g.I.Read.remaining c.loop-number.ends.input) (fleet_of c.loop-number.fleet) c.loop-number.number c.loop-number.bytes.items (g.W.Write.contents c.args.ends.now.output) (g.W.Write.contents c.loop-number.ends.output) c.args.pen.now.out.items c.loop-number.pen.out.items c.loop-number.invariant.goes (line_shown c.line_let_in-line.result) (c.line_let_in-line.ensures ∙ ap (line_let_in c.args.entrance.door.now.refused.marks.items c.loop-number.number) c.deref.ensures.value) (sym c.is_quit.ensures ∙ c.if-is_quit.false) (fleet_of c.answer.new.fleet) (g.W.Write.contents c.answer.new.ends.output) c.answer.new.pen.out.items text (subst (λ (st : Settings). Talks st.roll (fleet_of c.loop-number.fleet) (acts_on st (line_shown c.line_let_in-line.result)) text (fleet_of c.answer.new.fleet)) c.loop-number.invariant.settings talks) says fault (g.W.Write.contents c.tell_if_due.new.ends.output) c.tell_if_due.new.pen.out.items c.in_err-tell_if_due.ensures.broken)
 
 pub returns-in_err-next_line-clause-broken : goal.returns-in_err-next_line-clause-broken
 returns-in_err-next_line-clause-broken g c =
     let fault = c.in_err-next_line.field-0.0 in
     let (text, talks, says) = c.in_ok-answer.ensures.talks in
     at-fault _ fault _ c.from_residual-in_err-next_line.ensures.1
-    (goes-unread c.args.pen.now.settings c.args.entrance.door.now.refused.marks.items (fleet_of c.args.fleet.now) (λ xs. acts_from c.args.pen.now.settings c.args.entrance.door.now.refused.marks.items c.args.entrance.first (c.args.bytes.now.items ∷ heard_lines xs)) (reader_remaining g.I.Read.remaining c.args.ends.now.input) (reader_remaining g.I.Read.remaining c.loop-number.ends.input) (fleet_of c.loop-number.fleet) c.loop-number.number c.loop-number.bytes.items (g.W.Write.contents c.args.ends.now.output) (g.W.Write.contents c.loop-number.ends.output) c.args.pen.now.out.items c.loop-number.pen.out.items c.loop-number.invariant.goes (line_shown c.line_let_in-line.result) (c.line_let_in-line.ensures ∙ ap (line_let_in c.args.entrance.door.now.refused.marks.items c.loop-number.number) c.deref.ensures.value) (sym c.is_quit.ensures ∙ c.if-is_quit.false) (fleet_of c.answer.new.fleet) (g.W.Write.contents c.answer.new.ends.output) c.answer.new.pen.out.items text (subst (λ (st : Settings). Talks st.roll (fleet_of c.loop-number.fleet) (acts_on st (line_shown c.line_let_in-line.result)) text (fleet_of c.answer.new.fleet)) c.loop-number.invariant.settings talks) says (g.W.Write.contents c.write_if_due.new.ends.output) c.write_if_due.new.pen.out.items c.in_ok-write_if_due.ensures.says fault c.in_err-next_line.ensures.midway)
+    (goes-unread c.args.pen.now.settings c.args.entrance.door.now.refused.marks.items (fleet_of c.args.fleet.now) (λ xs. acts_from c.args.pen.now.settings c.args.entrance.door.now.refused.marks.items c.args.entrance.first (c.args.bytes.now.items ∷ heard_lines xs)) (reader_remaining g.I.Read.remaining c.args.ends.now.input) (reader_remaining g.I.Read.remaining c.loop-number.ends.input) (fleet_of c.loop-number.fleet) c.loop-number.number c.loop-number.bytes.items (g.W.Write.contents c.args.ends.now.output) (g.W.Write.contents c.loop-number.ends.output) c.args.pen.now.out.items c.loop-number.pen.out.items c.loop-number.invariant.goes (line_shown c.line_let_in-line.result) (c.line_let_in-line.ensures ∙ ap (line_let_in c.args.entrance.door.now.refused.marks.items c.loop-number.number) c.deref.ensures.value) (sym c.is_quit.ensures ∙ c.if-is_quit.false) (fleet_of c.answer.new.fleet) (g.W.Write.contents c.answer.new.ends.output) c.answer.new.pen.out.items text (subst (λ (st : Settings). Talks st.roll (fleet_of c.loop-number.fleet) (acts_on st (line_shown c.line_let_in-line.result)) text (fleet_of c.answer.new.fleet)) c.loop-number.invariant.settings talks) says (g.W.Write.contents c.tell_if_due.new.ends.output) c.tell_if_due.new.pen.out.items c.in_ok-tell_if_due.ensures.says fault c.in_err-next_line.ensures.midway)
 
 pub returns-then-not-branch-clause-talks : goal.returns-then-not-branch-clause-talks
 returns-then-not-branch-clause-talks g c =
     let (text, talks, says) = c.in_ok-answer.ensures.talks in
-    let input = c.write_if_due.ensures.input ∙ c.answer.ensures.input in
+    let input = c.tell_if_due.ensures.input ∙ c.answer.ensures.input in
     let next = subst (λ (o : Option (List ℕ)). IfSome o (λ ys. IsNext ys (reader_remaining g.I.Read.remaining c.next_line.new.input) c.in_ok-next_line.field-0 c.next_line.new.bytes.items)) (ap (reader_remaining g.I.Read.remaining) input) c.in_ok-next_line.ensures.next in
-    goes-end c.args.pen.now.settings c.args.entrance.door.now.refused.marks.items (fleet_of c.args.fleet.now) (λ xs. acts_from c.args.pen.now.settings c.args.entrance.door.now.refused.marks.items c.args.entrance.first (c.args.bytes.now.items ∷ heard_lines xs)) (reader_remaining g.I.Read.remaining c.args.ends.now.input) (reader_remaining g.I.Read.remaining c.loop-number.ends.input) (fleet_of c.loop-number.fleet) c.loop-number.number c.loop-number.bytes.items (g.W.Write.contents c.args.ends.now.output) (g.W.Write.contents c.loop-number.ends.output) c.args.pen.now.out.items c.loop-number.pen.out.items c.loop-number.invariant.goes (line_shown c.line_let_in-line.result) (c.line_let_in-line.ensures ∙ ap (line_let_in c.args.entrance.door.now.refused.marks.items c.loop-number.number) c.deref.ensures.value) (sym c.is_quit.ensures ∙ c.if-is_quit.false) (fleet_of c.answer.new.fleet) (g.W.Write.contents c.answer.new.ends.output) c.answer.new.pen.out.items text (subst (λ (st : Settings). Talks st.roll (fleet_of c.loop-number.fleet) (acts_on st (line_shown c.line_let_in-line.result)) text (fleet_of c.answer.new.fleet)) c.loop-number.invariant.settings talks) says (g.W.Write.contents c.write_if_due.new.ends.output) c.write_if_due.new.pen.out.items c.in_ok-write_if_due.ensures.says (reader_remaining g.I.Read.remaining c.next_line.new.input) c.in_ok-next_line.field-0 c.next_line.new.bytes.items next c.if-not-branch.true
+    goes-end c.args.pen.now.settings c.args.entrance.door.now.refused.marks.items (fleet_of c.args.fleet.now) (λ xs. acts_from c.args.pen.now.settings c.args.entrance.door.now.refused.marks.items c.args.entrance.first (c.args.bytes.now.items ∷ heard_lines xs)) (reader_remaining g.I.Read.remaining c.args.ends.now.input) (reader_remaining g.I.Read.remaining c.loop-number.ends.input) (fleet_of c.loop-number.fleet) c.loop-number.number c.loop-number.bytes.items (g.W.Write.contents c.args.ends.now.output) (g.W.Write.contents c.loop-number.ends.output) c.args.pen.now.out.items c.loop-number.pen.out.items c.loop-number.invariant.goes (line_shown c.line_let_in-line.result) (c.line_let_in-line.ensures ∙ ap (line_let_in c.args.entrance.door.now.refused.marks.items c.loop-number.number) c.deref.ensures.value) (sym c.is_quit.ensures ∙ c.if-is_quit.false) (fleet_of c.answer.new.fleet) (g.W.Write.contents c.answer.new.ends.output) c.answer.new.pen.out.items text (subst (λ (st : Settings). Talks st.roll (fleet_of c.loop-number.fleet) (acts_on st (line_shown c.line_let_in-line.result)) text (fleet_of c.answer.new.fleet)) c.loop-number.invariant.settings talks) says (g.W.Write.contents c.tell_if_due.new.ends.output) c.tell_if_due.new.pen.out.items c.in_ok-tell_if_due.ensures.says (reader_remaining g.I.Read.remaining c.next_line.new.input) c.in_ok-next_line.field-0 c.next_line.new.bytes.items next c.if-not-branch.true
 
 pub returns-then-not-branch-clause-kept : goal.returns-then-not-branch-clause-kept
-returns-then-not-branch-clause-kept g c = keeps-then (g.S.ChapterSink.kept c.args.ends.now.sink) (g.S.ChapterSink.kept c.loop-number.ends.sink) (g.S.ChapterSink.kept c.write_if_due.new.ends.sink) (talk c.args.fleet.now.session) (talk c.loop-number.fleet.session) (talk c.answer.new.fleet.session) c.loop-number.invariant.kept
-    (subst (λ (known : Option (List (ChapterView Global))). KeepsTurned (g.S.ChapterSink.kept c.loop-number.ends.sink) known (talk c.loop-number.fleet.session) (talk c.answer.new.fleet.session)) (sym (ap g.S.ChapterSink.kept c.write_if_due.ensures.sink)) c.in_ok-answer.ensures.kept)
+returns-then-not-branch-clause-kept g c = keeps-then (g.S.ChapterSink.kept c.args.ends.now.sink) (g.S.ChapterSink.kept c.loop-number.ends.sink) (g.S.ChapterSink.kept c.tell_if_due.new.ends.sink) (talk c.args.fleet.now.session) (talk c.loop-number.fleet.session) (talk c.answer.new.fleet.session) c.loop-number.invariant.kept
+    (subst (λ (known : Option (List (ChapterView Global))). KeepsTurned (g.S.ChapterSink.kept c.loop-number.ends.sink) known (talk c.loop-number.fleet.session) (talk c.answer.new.fleet.session)) (sym c.tell_if_due.ensures.kept) c.in_ok-answer.ensures.kept)
 
 pub loop-number-preserved : goal.loop-number-preserved
 loop-number-preserved g c =
     let (text, talks, says) = c.in_ok-answer.ensures.talks in
-    let input = c.write_if_due.ensures.input ∙ c.answer.ensures.input in
+    let input = c.tell_if_due.ensures.input ∙ c.answer.ensures.input in
     let next = subst (λ (o : Option (List ℕ)). IfSome o (λ ys. IsNext ys (reader_remaining g.I.Read.remaining c.next_line.new.input) c.in_ok-next_line.field-0 c.next_line.new.bytes.items)) (ap (reader_remaining g.I.Read.remaining) input) c.in_ok-next_line.ensures.next in
     record {
-      goes = goes-more c.args.pen.now.settings c.args.entrance.door.now.refused.marks.items (fleet_of c.args.fleet.now) (λ xs. acts_from c.args.pen.now.settings c.args.entrance.door.now.refused.marks.items c.args.entrance.first (c.args.bytes.now.items ∷ heard_lines xs)) (reader_remaining g.I.Read.remaining c.args.ends.now.input) (reader_remaining g.I.Read.remaining c.loop-number.ends.input) (fleet_of c.loop-number.fleet) c.loop-number.number c.loop-number.bytes.items (g.W.Write.contents c.args.ends.now.output) (g.W.Write.contents c.loop-number.ends.output) c.args.pen.now.out.items c.loop-number.pen.out.items c.loop-number.invariant.goes (line_shown c.line_let_in-line.result) (c.line_let_in-line.ensures ∙ ap (line_let_in c.args.entrance.door.now.refused.marks.items c.loop-number.number) c.deref.ensures.value) (sym c.is_quit.ensures ∙ c.if-is_quit.false) (fleet_of c.answer.new.fleet) (g.W.Write.contents c.answer.new.ends.output) c.answer.new.pen.out.items text (subst (λ (st : Settings). Talks st.roll (fleet_of c.loop-number.fleet) (acts_on st (line_shown c.line_let_in-line.result)) text (fleet_of c.answer.new.fleet)) c.loop-number.invariant.settings talks) says (g.W.Write.contents c.write_if_due.new.ends.output) c.write_if_due.new.pen.out.items c.in_ok-write_if_due.ensures.says (reader_remaining g.I.Read.remaining c.next_line.new.input) c.in_ok-next_line.field-0 c.next_line.new.bytes.items next c.if-not-branch.false;
-      kept = keeps-then (g.S.ChapterSink.kept c.args.ends.now.sink) (g.S.ChapterSink.kept c.loop-number.ends.sink) (g.S.ChapterSink.kept c.write_if_due.new.ends.sink) (talk c.args.fleet.now.session) (talk c.loop-number.fleet.session) (talk c.answer.new.fleet.session) c.loop-number.invariant.kept
-          (subst (λ (known : Option (List (ChapterView Global))). KeepsTurned (g.S.ChapterSink.kept c.loop-number.ends.sink) known (talk c.loop-number.fleet.session) (talk c.answer.new.fleet.session)) (sym (ap g.S.ChapterSink.kept c.write_if_due.ensures.sink)) c.in_ok-answer.ensures.kept);
-      settings = c.write_if_due.ensures.settings ∙ (c.answer.ensures.settings ∙ c.loop-number.invariant.settings);
+      goes = goes-more c.args.pen.now.settings c.args.entrance.door.now.refused.marks.items (fleet_of c.args.fleet.now) (λ xs. acts_from c.args.pen.now.settings c.args.entrance.door.now.refused.marks.items c.args.entrance.first (c.args.bytes.now.items ∷ heard_lines xs)) (reader_remaining g.I.Read.remaining c.args.ends.now.input) (reader_remaining g.I.Read.remaining c.loop-number.ends.input) (fleet_of c.loop-number.fleet) c.loop-number.number c.loop-number.bytes.items (g.W.Write.contents c.args.ends.now.output) (g.W.Write.contents c.loop-number.ends.output) c.args.pen.now.out.items c.loop-number.pen.out.items c.loop-number.invariant.goes (line_shown c.line_let_in-line.result) (c.line_let_in-line.ensures ∙ ap (line_let_in c.args.entrance.door.now.refused.marks.items c.loop-number.number) c.deref.ensures.value) (sym c.is_quit.ensures ∙ c.if-is_quit.false) (fleet_of c.answer.new.fleet) (g.W.Write.contents c.answer.new.ends.output) c.answer.new.pen.out.items text (subst (λ (st : Settings). Talks st.roll (fleet_of c.loop-number.fleet) (acts_on st (line_shown c.line_let_in-line.result)) text (fleet_of c.answer.new.fleet)) c.loop-number.invariant.settings talks) says (g.W.Write.contents c.tell_if_due.new.ends.output) c.tell_if_due.new.pen.out.items c.in_ok-tell_if_due.ensures.says (reader_remaining g.I.Read.remaining c.next_line.new.input) c.in_ok-next_line.field-0 c.next_line.new.bytes.items next c.if-not-branch.false;
+      kept = keeps-then (g.S.ChapterSink.kept c.args.ends.now.sink) (g.S.ChapterSink.kept c.loop-number.ends.sink) (g.S.ChapterSink.kept c.tell_if_due.new.ends.sink) (talk c.args.fleet.now.session) (talk c.loop-number.fleet.session) (talk c.answer.new.fleet.session) c.loop-number.invariant.kept
+          (subst (λ (known : Option (List (ChapterView Global))). KeepsTurned (g.S.ChapterSink.kept c.loop-number.ends.sink) known (talk c.loop-number.fleet.session) (talk c.answer.new.fleet.session)) (sym c.tell_if_due.ensures.kept) c.in_ok-answer.ensures.kept);
+      settings = c.tell_if_due.ensures.settings ∙ (c.answer.ensures.settings ∙ c.loop-number.invariant.settings);
     }
 
 pub returns-clause-broken : goal.returns-clause-broken
