@@ -16,7 +16,7 @@ module _ (Near : ℕ → ℕ → Type 0) (Cell : ℕ → Type 0) (n count : ℕ)
     (fits : (x : ℕ) → x < n → IsFitUp Near up number end top x) (whole : (x : ℕ) → Cell x → IsWhole Near up number end far order count x)
     (listed : (k : ℕ) → k < count → IsListed Cell number order k) where
   -- an edge of the tree
-  OnTree : ℕ → ℕ → Type 0
+  abbrev OnTree : ℕ → ℕ → Type 0
   OnTree x y = (Near x y) × ((up x ≡ y) ⊎ (up y ≡ x))
 
   turn_tree : (x y : ℕ) → OnTree x y → OnTree y x
