@@ -12,6 +12,7 @@ mod law;
 mod layout;
 mod listed;
 mod numbers;
+mod parts;
 mod places;
 mod preorder;
 mod reach;
@@ -21,6 +22,7 @@ mod search;
 mod settled;
 mod sides;
 mod tree;
+mod walked;
 
 pub use first::first_bridge;
 pub use law::{cores_serve, rooms_serve};

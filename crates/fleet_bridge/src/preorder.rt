@@ -32,17 +32,16 @@ fn is_held_beside<A: Allocator + Copy, B: Allocator + Copy>(
     let Some(next) = sides.beside(cell, dir) else {
         return true;
     };
+    let number = read(&tree.number, next);
+    if read(&tree.far, cell) <= number {
+        if number < read(&tree.end, cell) {
+            return true;
+        }
+    }
     if read(&tree.up, cell) == next {
         return true;
     }
-    if read(&tree.up, next) == cell {
-        return true;
-    }
-    let number = read(&tree.number, next);
-    if number < read(&tree.far, cell) {
-        return false;
-    }
-    number < read(&tree.end, cell)
+    read(&tree.up, next) == cell
 }
 
 /// Whether each edge from the cell is.

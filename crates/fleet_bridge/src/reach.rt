@@ -6,31 +6,28 @@ ghost use Rattle.fleet_bridge.specs.inside.Tree.{AreUnder};
 use crate::numbers::{own_numbers, read, write};
 use std::alloc::{AllocError, Allocator};
 
-/// Gives the parent the reach of the child's subtree, with its cell, if that reaches further.
+/// Gives the parent the cell of the child's subtree that reaches furthest, if it reaches as far as any of the parent's.
 #[inline(always)]
 fn hand_up<A: Allocator + Copy>(
     up: &Vec<u32, A>,
-    far: &mut Vec<u32, A>,
+    far: &Vec<u32, A>,
     inner: &mut Vec<u32, A>,
     cell: u32,
 )
     ensures { (n : ℕ) → cell < n → AreUnder up.now.items n inner.old.items → AreUnder up.now.items n inner.new.items }
 {
     let parent = read(up, cell);
-    let mine = read(far, cell);
-    if mine < read(far, parent) {
-        write(far, parent, mine);
+    if read(far, cell) == read(far, parent) {
         let found = read(inner, cell);
         write(inner, parent, found);
     }
 }
 
-/// Hands the furthest reach of each subtree up to the parent: children come after their parents in the order, so this
-/// goes backward.
+/// Hands a cell of each subtree up to the parent: children come after their parents in the order, so this goes backward.
 fn hand_all_up<A: Allocator + Copy>(
     up: &Vec<u32, A>,
     order: &Vec<u32, A>,
-    far: &mut Vec<u32, A>,
+    far: &Vec<u32, A>,
     inner: &mut Vec<u32, A>,
     count: u32,
 )
@@ -44,14 +41,13 @@ fn hand_all_up<A: Allocator + Copy>(
     }
 }
 
-/// For each cell a cell of its subtree that reaches furthest. `far` has how far each cell reaches, and then how far its
-/// subtree does.
+/// For each cell a cell of its subtree that reaches as far as `far` has it.
 #[tactic(auto, using(crate::proofs::Inner::under_own))]
 pub(crate) fn furthest<A: Allocator + Copy>(
     alloc: A,
     up: &Vec<u32, A>,
     order: &Vec<u32, A>,
-    far: &mut Vec<u32, A>,
+    far: &Vec<u32, A>,
     count: u32,
 ) -> Result<Vec<u32, A>, AllocError>
     ensures { IfOk result (λ inner. AreUnder up.now.items count inner.items) }

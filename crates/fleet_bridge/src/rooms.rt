@@ -1,9 +1,9 @@
 //! The rooms of a map: the sides of the bridges around one block of each part, its core.
 
-ghost use Rattle.std.specs.Prelude.{◌≡◌, ◌≢◌, ℕ, ◌<◌, vec_len, slice_index, Option, None, IfOk, IfSome, MatchOption, true};
+ghost use Rattle.std.specs.Prelude.{◌≡◌, ◌≢◌, ℕ, ◌<◌, length, vec_len, slice_index, Option, None, IfOk, IfSome, MatchOption, true};
 ghost use Rattle.fleet_bridge.specs.Rooms.{AreRooms};
 ghost use Rattle.fleet_bridge.specs.inside.Housed.{AreTold};
-ghost use Rattle.fleet_bridge.specs.inside.Spanning.{IsSpanning};
+ghost use Rattle.fleet_bridge.specs.inside.Tree.{AreUnder};
 ghost use Rattle.fleet_bridge.specs.inside.Preorder.{subtree_size};
 
 use crate::blocks::{Blocks, are_roots, blocks_of, cores_of};
@@ -11,9 +11,9 @@ use crate::hanging::size;
 use crate::housed::are_housed;
 use crate::layout::{Layout, layout_of};
 use crate::numbers::read;
-use crate::preorder::is_walk;
 use crate::sides::Sides;
-use crate::tree::{Tree, spanning_tree};
+use crate::tree::{Tree, tree_of};
+use crate::walked::is_walked;
 use fleet_grid::Grid;
 use std::alloc::{AllocError, Allocator, Global};
 
@@ -105,6 +105,8 @@ fn told<A: Allocator + Copy>(
         far: _,
         low: _,
         order: _,
+        roots: _,
+        largest: _,
     } = tree;
     let Layout {
         door,
@@ -121,23 +123,23 @@ fn told<A: Allocator + Copy>(
     })
 }
 
-/// A tree with its roots in the cores, its blocks, and whether it passed its check.
+/// A tree with its roots in the cores, and its blocks, before the checks.
 fn cored_tree<A: Allocator + Copy, B: Allocator + Copy>(
     alloc: A,
     sides: &Sides<'_, B>,
-) -> Result<(Tree<A>, Blocks<A>, bool), AllocError>
-    ensures { IfOk result (λ it. it.2 ≡ true → IsSpanning sides.now it.0) }
+) -> Result<(Tree<A>, Blocks<A>), AllocError>
+    ensures { IfOk result (λ it. AreUnder it.0.up.items (length sides.now.letters) it.0.low.items) }
 {
     let count = sides.grid().cell_count();
-    let (tree, is_sound) = spanning_tree(alloc, sides, &Vec::new(alloc))?;
+    let tree = tree_of(alloc, sides, &Vec::new(alloc), count)?;
     let blocks = blocks_of(alloc, &tree, count)?;
     let cores = cores_of(alloc, &tree, &blocks, count)?;
     if are_roots(&tree, &cores) {
-        return Ok((tree, blocks, is_sound));
+        return Ok((tree, blocks));
     }
-    let (tree, is_sound) = spanning_tree(alloc, sides, &cores)?;
+    let tree = tree_of(alloc, sides, &cores, count)?;
     let blocks = blocks_of(alloc, &tree, count)?;
-    Ok((tree, blocks, is_sound))
+    Ok((tree, blocks))
 }
 
 /// The rooms, over the sides of the map's cells.
@@ -148,9 +150,9 @@ fn rooms_by<A: Allocator + Copy, B: Allocator + Copy>(
     ensures { IfOk result (λ found. IfSome found (AreRooms sides.now)) }
 {
     let count = sides.grid().cell_count();
-    let (tree, blocks, is_sound) = cored_tree(alloc, sides)?;
+    let (tree, blocks) = cored_tree(alloc, sides)?;
     let layout = layout_of(alloc, &tree, blocks, count)?;
-    if is_sound && is_walk(sides, &tree) && are_housed(sides, &tree, &layout) {
+    if is_walked(sides, &tree) && are_housed(sides, &tree, &layout) {
         return Ok(Some(told(alloc, tree, layout, count)?));
     }
     Ok(None)

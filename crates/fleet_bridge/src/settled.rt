@@ -6,46 +6,44 @@ ghost use Rattle.std.specs.Prelude.{◌≡◌, ◌⊎◌, ℕ, ◌+◌, ◌-◌,
 ghost use Rattle.fleet_grid.specs.Floor.{IsFloor};
 ghost use Rattle.fleet_bridge.specs.Roominess.{AreRoomyFor};
 ghost use Rattle.fleet_bridge.specs.inside.Spanning.{IsSpanning};
-ghost use Rattle.fleet_bridge.specs.inside.Preorder.{IsRootedIn, IsSettledIn, IsWalk, subtree_size};
+ghost use Rattle.fleet_bridge.specs.inside.Preorder.{IsRootedIn, IsSettledIn, IsWalked, subtree_size};
 
 use crate::first::is_crossed;
-use crate::hanging::{hangs, largest_hanging, light_roots, size};
+use crate::hanging::{hangs, largest_hanging, size};
 use crate::numbers::{read, write};
-use crate::preorder::{is_floor, is_walk};
+use crate::preorder::is_floor;
 use crate::sides::Sides;
-use crate::tree::{Tree, spanning_tree};
+use crate::tree::{Tree, tree_of};
+use crate::walked::is_walked;
 use std::alloc::{AllocError, Allocator};
 
-/// The number of a cell whose parent has its own.
-#[inline(always)]
-fn most_of<A: Allocator + Copy>(
-    tree: &Tree<A>,
-    largest: &Vec<u32, A>,
-    most: &Vec<u32, A>,
-    cell: u32,
-) -> u32 {
-    let up = read(&tree.up, cell);
-    if up != cell {
-        return if hangs(tree, cell) {
-            size(tree, cell)
-        } else {
-            read(most, up)
-        };
+/// The number of a root, or of a cell whose subtree hangs.
+fn own_most<A: Allocator + Copy>(tree: &Tree<A>, cell: u32) -> u32 {
+    let own = size(tree, cell);
+    if read(&tree.up, cell) != cell {
+        return own;
     }
-    let hanging = read(largest, cell);
+    let hanging = largest_hanging(tree, cell);
     if hanging == cell {
         return u32::MAX;
     }
-    size(tree, cell).saturating_sub(size(tree, hanging))
+    own.saturating_sub(size(tree, hanging))
 }
 
-/// The numbers of all cells: parents come before their children in the order.
-fn fill<A: Allocator + Copy>(tree: &Tree<A>, largest: &Vec<u32, A>, most: &mut Vec<u32, A>)
+/// The numbers of all cells: parents come before their children in the order. Each cell has its place in the order as
+/// its number.
+fn fill<A: Allocator + Copy>(tree: &Tree<A>, most: &mut Vec<u32, A>)
     ensures { length most.new.items ≡ length most.old.items }
 {
+    let mut number = 0u32;
     for cell in tree.order.iter() {
-        let number = most_of(tree, largest, most, *cell);
-        write(most, *cell, number);
+        let found = if number <= read(&tree.far, *cell) {
+            own_most(tree, *cell)
+        } else {
+            read(most, read(&tree.up, *cell))
+        };
+        write(most, *cell, found);
+        number = number.saturating_add(1);
     }
 }
 
@@ -88,7 +86,6 @@ fn is_hung_right<A: Allocator + Copy>(tree: &Tree<A>, most: &Vec<u32, A>, cell: 
 fn is_settled<A: Allocator + Copy, B: Allocator + Copy>(
     sides: &Sides<'_, B>,
     tree: &Tree<A>,
-    largest: &Vec<u32, A>,
     most: &Vec<u32, A>,
     cell: u32,
 ) -> bool
@@ -98,7 +95,7 @@ fn is_settled<A: Allocator + Copy, B: Allocator + Copy>(
 {
     let up = read(&tree.up, cell);
     if up == cell {
-        return is_rooted(sides, tree, most, cell, read(largest, cell));
+        return is_rooted(sides, tree, most, cell, largest_hanging(tree, cell));
     }
     if hangs(tree, cell) {
         return is_hung_right(tree, most, cell);
@@ -113,7 +110,6 @@ fn is_settled<A: Allocator + Copy, B: Allocator + Copy>(
 fn is_settled_or_wall<A: Allocator + Copy, B: Allocator + Copy>(
     sides: &Sides<'_, B>,
     tree: &Tree<A>,
-    largest: &Vec<u32, A>,
     most: &Vec<u32, A>,
     cell: u32,
 ) -> bool
@@ -121,7 +117,7 @@ fn is_settled_or_wall<A: Allocator + Copy, B: Allocator + Copy>(
     ensures { result ≡ true → IsFloor sides.now cell → IsSettledIn sides.now tree.now (slice_index most.now.items) cell }
 {
     if is_floor(sides, cell) {
-        return is_settled(sides, tree, largest, most, cell);
+        return is_settled(sides, tree, most, cell);
     }
     true
 }
@@ -130,14 +126,13 @@ fn is_settled_or_wall<A: Allocator + Copy, B: Allocator + Copy>(
 fn are_settled<A: Allocator + Copy, B: Allocator + Copy>(
     sides: &Sides<'_, B>,
     tree: &Tree<A>,
-    largest: &Vec<u32, A>,
     most: &Vec<u32, A>,
 ) -> bool
     requires { IsSpanning sides.now tree.now }
     ensures { result ≡ true → (c : ℕ) → IsFloor sides.now c → IsSettledIn sides.now tree.now (slice_index most.now.items) c }
 {
     for cell in 0..sides.grid().cell_count() {
-        if !is_settled_or_wall(sides, tree, largest, most, cell) {
+        if !is_settled_or_wall(sides, tree, most, cell) {
             return false;
         }
     }
@@ -148,14 +143,13 @@ fn are_settled<A: Allocator + Copy, B: Allocator + Copy>(
 fn is_shown<A: Allocator + Copy, B: Allocator + Copy>(
     sides: &Sides<'_, B>,
     tree: &Tree<A>,
-    largest: &Vec<u32, A>,
     most: &Vec<u32, A>,
 ) -> bool
-    requires tree { IsSpanning sides.now tree.now }
+    requires tree { IsWalked sides.now tree.now }
     requires size { vec_len most.now ≡ length sides.now.letters }
     ensures { result ≡ true → AreRoomyFor sides.now most.now.items }
 {
-    is_walk(sides, tree) && are_settled(sides, tree, largest, most)
+    are_settled(sides, tree, most)
 }
 
 /// The numbers by a tree, if it shows that they are right.
@@ -164,38 +158,27 @@ fn shown_by<A: Allocator + Copy, B: Allocator + Copy>(
     sides: &Sides<'_, B>,
     tree: &Tree<A>,
 ) -> Result<Option<Vec<u32, A>>, AllocError>
-    requires { IsSpanning sides.now tree.now }
+    requires { IsWalked sides.now tree.now }
     ensures { IfOk result (λ found. IfSome found (λ most. AreRoomyFor sides.now most.items)) }
 {
     let count = sides.grid().cell_count();
-    let largest = largest_hanging(alloc, tree, count)?;
     let mut most = vec![in alloc; u32::MAX; count as usize]?;
-    fill(tree, &largest, &mut most);
-    if is_shown(sides, tree, &largest, &most) {
+    fill(tree, &mut most);
+    if is_shown(sides, tree, &most) {
         return Ok(Some(most));
     }
     Ok(None)
 }
 
-/// The numbers by a tree, with other roots where a subtree that hangs is heavy; `None` if the tree did not pass its
-/// checks.
+/// The numbers by a tree in which no subtree that hangs is heavy; `None` if the tree did not pass its checks.
 pub(crate) fn shown_roominess<A: Allocator + Copy, B: Allocator + Copy>(
     alloc: A,
     sides: &Sides<'_, B>,
 ) -> Result<Option<Vec<u32, A>>, AllocError>
     ensures { IfOk result (λ found. IfSome found (λ most. AreRoomyFor sides.now most.items)) }
 {
-    let (tree, is_sound) = spanning_tree(alloc, sides, &Vec::new(alloc))?;
-    let roots = light_roots(alloc, &tree, sides.grid().cell_count())?;
-    if roots.is_empty() {
-        return if is_sound {
-            shown_by(alloc, sides, &tree)
-        } else {
-            Ok(None)
-        };
-    }
-    let (tree, is_sound) = spanning_tree(alloc, sides, &roots)?;
-    if is_sound {
+    let tree = tree_of(alloc, sides, &Vec::new(alloc), sides.grid().cell_count())?;
+    if is_walked(sides, &tree) {
         return shown_by(alloc, sides, &tree);
     }
     Ok(None)

@@ -45,6 +45,29 @@ impl<'a, B: Allocator + Copy> Sides<'a, B> {
         self.grid
     }
 
+    /// The map's width.
+    #[inline(always)]
+    pub(crate) fn width(&self) -> u32 {
+        self.width
+    }
+
+    /// The ways of each cell, as bytes of `Ways`.
+    #[inline(always)]
+    pub(crate) fn ways(&self) -> &[u8] {
+        self.ways
+    }
+
+    /// The ways from a cell, as a byte of `Ways`; none past the last cell.
+    #[inline(always)]
+    pub(crate) fn ways_from(&self, cell: u32) -> u8 {
+        let at = cell as usize;
+        if at < self.ways.len() {
+            self.ways[at]
+        } else {
+            0
+        }
+    }
+
     /// The floor cell next to a cell in a direction; `None` if either of the two is not floor.
     #[inline(always)]
     pub(crate) fn beside(&self, cell: u32, dir: Dir) -> Option<u32>

@@ -8,8 +8,9 @@ ghost use Rattle.fleet_grid.specs.Floor.{IsNeighbour, IsNeighbourIn};
 ghost use Rattle.fleet_bridge.specs.inside.Tree.{AreUnder};
 ghost use Rattle.fleet_bridge.specs.inside.Spanning.{IsFitIn, IsSpanning};
 
-use crate::growth::{Growth, place_all};
+use crate::growth::Growth;
 use crate::numbers::read;
+use crate::parts::place_all;
 use crate::reach::furthest;
 use crate::sides::Sides;
 use fleet_grid::Dir;
@@ -17,7 +18,8 @@ use std::alloc::{AllocError, Allocator, Global};
 
 /// For each cell: its parent (itself, where it has none), the root of its part, its number in preorder, the number after
 /// those of its subtree, the least number that an edge off the tree reaches from its subtree, and a cell of the subtree
-/// that reaches it. And the floor cells in preorder.
+/// that reaches it. The floor cells in preorder. The roots of the parts, in that order, and for each a cell with the
+/// largest subtree that hangs, or the root where none does.
 #[derive(Drop)]
 pub(crate) struct Tree<A: Allocator + Copy = Global> {
     pub(crate) up: Vec<u32, A>,
@@ -27,6 +29,8 @@ pub(crate) struct Tree<A: Allocator + Copy = Global> {
     pub(crate) far: Vec<u32, A>,
     pub(crate) low: Vec<u32, A>,
     pub(crate) order: Vec<u32, A>,
+    pub(crate) roots: Vec<u32, A>,
+    pub(crate) largest: Vec<u32, A>,
 }
 
 /// Whether the edge to the neighbour in a direction has one top.
@@ -78,15 +82,15 @@ fn is_beside<B: Allocator + Copy>(sides: &Sides<'_, B>, a: u32, b: u32, dir: Dir
 }
 
 /// Whether the two cells are neighbours.
-fn is_near<B: Allocator + Copy>(sides: &Sides<'_, B>, a: u32, b: u32) -> bool
+pub(crate) fn is_near<B: Allocator + Copy>(sides: &Sides<'_, B>, a: u32, b: u32) -> bool
     ensures { result ≡ true → IsNeighbour sides.now a b }
 {
-    for dir in Dir::ALL {
-        if is_beside(sides, a, b, dir) {
-            return true;
-        }
-    }
-    false
+    let (along, down) = if a < b {
+        (Dir::East, Dir::South)
+    } else {
+        (Dir::West, Dir::North)
+    };
+    is_beside(sides, a, b, along) || is_beside(sides, a, b, down)
 }
 
 /// Whether the cell keeps what the proof needs.
@@ -125,8 +129,9 @@ fn are_fit<A: Allocator + Copy, B: Allocator + Copy>(
     true
 }
 
-/// The tree with these roots, before its check.
-fn tree_of<A: Allocator + Copy, B: Allocator + Copy>(
+/// The tree with these roots, before its check. The list has for each cell the root that its part is to have; where the
+/// list is empty, that is a cell with which no subtree that hangs has more than half of its part.
+pub(crate) fn tree_of<A: Allocator + Copy, B: Allocator + Copy>(
     alloc: A,
     sides: &Sides<'_, B>,
     roots: &Vec<u32, A>,
@@ -135,18 +140,20 @@ fn tree_of<A: Allocator + Copy, B: Allocator + Copy>(
     ensures { IfOk result (λ tree. AreUnder tree.up.items count tree.low.items) }
 {
     let Growth {
-        placed: _,
         left: _,
         up,
         top,
         number,
         end,
-        mut far,
-        below: _,
+        far,
         order,
         many: _,
+        roots,
+        largest,
+        hung: _,
+        size: _,
     } = place_all(alloc, sides, roots, count)?;
-    let low = furthest(alloc, &up, &order, &mut far, count)?;
+    let low = furthest(alloc, &up, &order, &far, count)?;
     Ok(Tree {
         up,
         top,
@@ -155,11 +162,12 @@ fn tree_of<A: Allocator + Copy, B: Allocator + Copy>(
         far,
         low,
         order,
+        roots,
+        largest,
     })
 }
 
-/// The tree, and whether it passed its check. The list has for each cell the root that its part is to have; where the
-/// list is empty, that is a cell with which no subtree that hangs has more than half of its part.
+/// The tree with these roots, and whether it passed its check.
 pub(crate) fn spanning_tree<A: Allocator + Copy, B: Allocator + Copy>(
     alloc: A,
     sides: &Sides<'_, B>,

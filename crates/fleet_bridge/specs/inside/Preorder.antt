@@ -1,6 +1,7 @@
 -- A tree whose cells are numbered by a walk through it: what a check of each cell shows, and which subtrees hang by a bridge.
 use Rattle.std.specs.Prelude.{◌≡◌, ◌≢◌, ℕ, ◌+◌, ◌-◌, ◌<◌, ◌≤◌, ◌⊎◌, length, slice_index}
 use Rattle.fleet_grid.specs.Floor.{Floor, IsFloor, IsNeighbour}
+use Rattle.fleet_bridge.specs.inside.Spanning.{IsSpanning}
 use Rattle.fleet_bridge.specs.inside.Tree.{IsCrossed}
 use Rattle.fleet_bridge.specs.declared.tree.Tree.{Tree}
 
@@ -74,3 +75,8 @@ IsSettledIn m t most = IsSettled (IsNeighbour m) (IsFloor m) (slice_index t.up.i
 pub record IsWalk {A : Type 0} (m : Floor) (t : Tree A) : Type 0 where
   pub whole : (c : ℕ) → IsFloor m c → IsWholeIn m t c
   pub listed : (k : ℕ) → k < length t.order.items → IsListedIn m t k
+
+-- and the tree spans the map
+pub record IsWalked {A : Type 0} (m : Floor) (t : Tree A) : Type 0 where
+  pub spanning : IsSpanning m t
+  pub walk : IsWalk m t

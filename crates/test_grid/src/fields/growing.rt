@@ -53,26 +53,3 @@ fn no_walk_to_the_goal(rt: HostRuntime) {
     assert!(&rt; seen(&rt, &mut field, &grid, 3) == (0, 10));
     assert!(&rt; seen(&rt, &mut field, &grid, 0) == (0, 0));
 }
-
-/// Searches for a floor cell, whose ways are not known before.
-fn search_for(rt: &impl Abort, field: &mut GrowingField, grid: &Grid, cell: u32)
-    requires serves { Serves grid.now field.old }
-    requires floor { IsFloor grid.now cell }
-    ensures { Serves grid.now field.new }
-{
-    assert!(rt; !field.tells(grid, cell));
-    field.search(grid, cell).expect(rt, "memory for a search");
-    assert!(rt; field.tells(grid, cell));
-}
-
-/// A cell is told once it was searched for, also if no walk leads from it.
-#[test]
-fn a_search_tells(rt: HostRuntime) {
-    let grid = grid_of(&rt, rt.alloc(), 1, 5, b"...W.");
-    assert!(&rt; grid.is_floor(0) && grid.is_floor(2) && grid.is_floor(4));
-    let mut field = GrowingField::new(rt.alloc(), &grid, 0, 2).expect(&rt, "memory for a field");
-    search_for(&rt, &mut field, &grid, 2);
-    search_for(&rt, &mut field, &grid, 4);
-    assert!(&rt; seen(&rt, &mut field, &grid, 2) == (8, 8));
-    assert!(&rt; seen(&rt, &mut field, &grid, 4) == (0, 0));
-}
