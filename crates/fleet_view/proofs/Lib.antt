@@ -3,3 +3,5 @@ pub mod Verdicts
 pub mod Made
 pub mod Pieces
 pub mod Closed
+pub mod Signs
+pub mod Told

@@ -4,3 +4,6 @@ pub mod Cells
 pub mod Picture
 pub mod View
 pub mod Closed
+pub mod Placed
+pub mod Runs
+pub mod Pair

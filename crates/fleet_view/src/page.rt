@@ -17,7 +17,12 @@ use fleet_trace::write_trace;
 use std::alloc::{AllocError, Global};
 
 /// The rows of a map, one line for each.
-fn write_rows(out: &mut Vec<u8>, height: u32, width: u32, cells: &[u8]) -> Result<(), AllocError>
+pub(crate) fn write_rows(
+    out: &mut Vec<u8>,
+    height: u32,
+    width: u32,
+    cells: &[u8],
+) -> Result<(), AllocError>
     requires { length cells.now ≡ height * width }
     ensures { OnOk result (out.new.items ≡ out.old.items ++ rows_text height width cells.now) }
 {
@@ -40,7 +45,7 @@ fn illegal_text(alloc: Global, at: u64, rule: u8) -> Result<String, AllocError>
 }
 
 /// A verdict's line.
-fn verdict_text(alloc: Global, verdict: ChapterVerdict) -> Result<String, AllocError>
+pub(crate) fn verdict_text(alloc: Global, verdict: ChapterVerdict) -> Result<String, AllocError>
     ensures { IfOk result (λ text. string_bytes text ≡ verdict_text verdict) }
 {
     match verdict {

@@ -395,6 +395,27 @@ function conflictsText(count) {
   return `${count} conflict${count === 1 ? '' : 's'} in all: ${listed} among the events, with the tick.`;
 }
 
+const MOST_BANNERS = 5;
+
+// The lines of the banner, with a jump to each fault.
+function bannerLines(replay, jump) {
+  const { faults, conflicts } = replay;
+  const lines = faults.slice(0, MOST_BANNERS).map((fault) => {
+    const line = document.createElement('p');
+    const button = document.createElement('button');
+    button.type = 'button';
+    button.className = 'jump';
+    button.textContent = `Show tick ${replay.clockAt(fault.frame)}`;
+    button.addEventListener('click', () => jump(fault.frame));
+    const of = replay.chapters.length > 1 ? `Chapter ${fault.chapter} is ` : 'This trace is ';
+    line.append(`${of}${faultText(fault)}. `, button);
+    return line;
+  });
+  if (faults.length > MOST_BANNERS) lines.push(`${faults.length - MOST_BANNERS} more chapters are illegal.`);
+  if (conflicts > 0) lines.push(conflictsText(conflicts));
+  return lines;
+}
+
 // ---- what stands at a frame, and how it changes
 
 // A robot as an opening has it at this frame.
@@ -702,6 +723,21 @@ class Replay {
     while (this.state.frame > frame) this.back();
   }
 
+  // Whose turn it is in the next tick; worked out once a frame.
+  turnsNow() {
+    if (this.stepTurns?.frame !== this.state.frame) this.stepTurns = stepTurns(this);
+    return this.stepTurns;
+  }
+
+  // The robots' cells after the next tick.
+  cellsAfter() {
+    const { frame, cells } = this.state;
+    const next = cells.slice();
+    if (frame === this.last) return next;
+    for (let at = this.moveStart[frame + 1]; at < this.moveStart[frame + 2]; at += 1) next[this.moveRobot[at]] += this.moveDelta[at];
+    return next;
+  }
+
   waitOf(robot) {
     const since = this.state.since[robot];
     return since === since ? this.state.frame - since : null;
@@ -757,6 +793,62 @@ class Replay {
     }
     return low < this.moveStart[frame + 1] && this.moveRobot[low] === robot ? this.moveDelta[low] : 0;
   }
+}
+
+// ---- whose turn it is in a step, and who pushes whom
+
+// The robots in the order in which a step is planned: by their waits, the longest first, those without an errand last; of
+// two alike the one with the lesser number.
+function orderOf(waits) {
+  const before = (one, other) => (waits[other] ?? -1) - (waits[one] ?? -1) || one - other;
+  return Array.from(waits.keys()).sort(before);
+}
+
+// For each robot its place in the order, from 1.
+function turnsOf(order) {
+  const turns = new Int32Array(order.length);
+  order.forEach((robot, place) => { turns[robot] = place + 1; });
+  return turns;
+}
+
+// For each robot the one that pushes it in a step from some cells to others, else -1. A robot pushes the one whose cell it comes
+// to, if that one had no cell yet: neither its turn had come, nor had it been pushed.
+function pushesOf(cells, next, order) {
+  const pushedBy = new Int32Array(cells.length).fill(-1);
+  const placed = new Uint8Array(cells.length);
+  const at = new Map();
+  cells.forEach((cell, robot) => at.set(cell, robot));
+  for (const first of order) {
+    let robot = first;
+    while (robot !== undefined && !placed[robot]) {
+      placed[robot] = 1;
+      const other = next[robot] === cells[robot] ? undefined : at.get(next[robot]);
+      // one that stays was not pushed away: there is a conflict
+      if (other === undefined || placed[other] || next[other] === cells[other]) break;
+      pushedBy[other] = robot;
+      robot = other;
+    }
+  }
+  return pushedBy;
+}
+
+// The order at a replay's frame, and who pushes whom in the next tick; null after the last one, and where it breaks a rule.
+function stepTurns(replay) {
+  const { frame, cells } = replay.state;
+  const waits = Array.from(cells, (_, robot) => replay.waitOf(robot));
+  const order = orderOf(waits);
+  const known = frame < replay.last && replay.faultsAt(frame + 1).length === 0;
+  const next = known ? replay.cellsAfter() : null;
+  return { frame, turns: turnsOf(order), next, pushedBy: known ? pushesOf(cells, next, order) : null };
+}
+
+function turnText({ turns, pushedBy }, robot) {
+  const texts = [`Its turn is number ${turns[robot]} of ${turns.length}.`];
+  if (pushedBy === null) return texts[0];
+  if (pushedBy[robot] >= 0) texts.push(`Robot ${pushedBy[robot]} pushes it in the next tick.`);
+  const pushed = pushedBy.indexOf(robot);
+  if (pushed >= 0) texts.push(`It pushes robot ${pushed}.`);
+  return texts.join(' ');
 }
 
 // ---- the bound on waits
@@ -935,17 +1027,26 @@ class MapPlace {
     // the zoom, 1 where the whole map is shown, and the place of the map that is in the middle, in cells
     this.zoom = 1;
     this.middle = { x: map.width / 2, y: map.height / 2 };
+    this.leastHigh = LEAST_HIGH;
   }
 
-  // The map is as high as it can be with its slider in the window; in one column it leaves room for what is told below it. Zoom
-  // and middle stay.
+  // How far down on the page the map begins.
+  above() {
+    return this.canvas.getBoundingClientRect().top + window.scrollY;
+  }
+
+  // How high the map may be: with its slider in the window; in one column it leaves room for what is told below it.
+  room() {
+    const isOneColumn = matchMedia('(max-width: 900px)').matches;
+    const below = isOneColumn ? window.innerHeight * 0.25 : element('time').offsetHeight + BELOW;
+    return Math.max(LEAST_HIGH, window.innerHeight - this.above() - below);
+  }
+
+  // The map is as high as it can be. Zoom and middle stay.
   resize() {
     const { height, width } = this.map;
     const room = this.canvas.clientWidth;
-    const above = this.canvas.getBoundingClientRect().top + window.scrollY;
-    const isOneColumn = matchMedia('(max-width: 900px)').matches;
-    const below = isOneColumn ? window.innerHeight * 0.25 : element('time').offsetHeight + BELOW;
-    const high = Math.max(LEAST_HIGH, Math.min(room * height / width, window.innerHeight - above - below));
+    const high = Math.max(this.leastHigh, Math.min(room * height / width, this.room()));
     this.ratio = window.devicePixelRatio || 1;
     this.canvas.style.height = `${high}px`;
     this.canvas.width = Math.round(room * this.ratio);
@@ -1026,6 +1127,79 @@ class MapPlace {
     const { width } = this.map;
     const { view } = this;
     return [view.left + (cell % width + 0.5) * view.scale, view.top + (Math.floor(cell / width) + 0.5) * view.scale];
+  }
+}
+
+// ---- the map without what is on it
+
+class MapFloor extends MapPlace {
+  constructor(canvas, map) {
+    super(canvas, map);
+    this.pen = canvas.getContext('2d');
+  }
+
+  // A canvas of one pixel a cell, which is drawn larger.
+  cellCanvas() {
+    const canvas = document.createElement('canvas');
+    canvas.width = this.map.width;
+    canvas.height = this.map.height;
+    return canvas;
+  }
+
+  paintLetters(colours) {
+    const { height, width, letters, floor } = this.map;
+    this.colours = colours;
+    this.ground = this.cellCanvas();
+    const pen = this.ground.getContext('2d');
+    pen.fillStyle = colours.floor;
+    pen.fillRect(0, 0, width, height);
+    for (let cell = 0; cell < floor.length; cell += 1) {
+      if (floor[cell]) continue;
+      pen.fillStyle = letters[cell] === 'T' || letters[cell] === 'W' ? colours.shelf : colours.wall;
+      pen.fillRect(cell % width, Math.floor(cell / width), 1, 1);
+    }
+  }
+
+  drawCells(canvas) {
+    const { view, map } = this;
+    this.pen.drawImage(canvas, view.left, view.top, map.width * view.scale, map.height * view.scale);
+  }
+
+  // What an extension draws between the floor and the lines of the map.
+  drawOnFloor() {}
+
+  drawGround(numbered) {
+    const { pen, view, map, colours, canvas } = this;
+    pen.setTransform(1, 0, 0, 1, 0, 0);
+    pen.globalAlpha = 1;
+    pen.fillStyle = colours.card;
+    pen.fillRect(0, 0, canvas.width, canvas.height);
+    pen.imageSmoothingEnabled = false;
+    this.drawCells(this.ground);
+    this.drawOnFloor();
+    pen.strokeStyle = colours.line;
+    pen.lineWidth = 1;
+    pen.strokeRect(view.left, view.top, map.width * view.scale, map.height * view.scale);
+    if (numbered) this.drawGrid();
+  }
+
+  drawGrid() {
+    const { pen, view, colours } = this;
+    const { height, width } = this.map;
+    pen.strokeStyle = colours.grid;
+    pen.lineWidth = 1;
+    pen.beginPath();
+    for (let column = 0; column <= width; column += 1) {
+      const x = Math.round(view.left + column * view.scale) + 0.5;
+      pen.moveTo(x, view.top);
+      pen.lineTo(x, view.top + height * view.scale);
+    }
+    for (let row = 0; row <= height; row += 1) {
+      const y = Math.round(view.top + row * view.scale) + 0.5;
+      pen.moveTo(view.left, y);
+      pen.lineTo(view.left + width * view.scale, y);
+    }
+    pen.stroke();
   }
 }
 
@@ -1133,65 +1307,30 @@ class Heat {
   }
 }
 
-// ---- what lies under the robots: letters, heat, bridges and cells that are not roomy, grid
+// ---- what lies under the robots: heat, bridges and cells that are not roomy
 
 const ROOMY_STRENGTH = 0.3;
 // a bridge's line, in cells
 const BRIDGE_WIDTH = 0.14;
 
-class MapGround extends MapPlace {
+class MapGround extends MapFloor {
   constructor(canvas, replay) {
     super(canvas, replay.map);
-    this.pen = canvas.getContext('2d');
     this.replay = replay;
     this.heat = new Heat(replay);
   }
 
-  // A canvas of one pixel a cell, which is drawn larger.
-  cellCanvas() {
-    const canvas = document.createElement('canvas');
-    canvas.width = this.map.width;
-    canvas.height = this.map.height;
-    return canvas;
-  }
-
   paintLetters(colours) {
-    const { height, width, letters, floor } = this.map;
-    this.colours = colours;
-    this.ground = this.cellCanvas();
+    super.paintLetters(colours);
     this.heatCanvas = this.cellCanvas();
-    this.heatPixels = this.heatCanvas.getContext('2d').createImageData(width, height);
+    this.heatPixels = this.heatCanvas.getContext('2d').createImageData(this.map.width, this.map.height);
     this.shades = shadesOf(colours.heat);
     this.paintedHeat = undefined;
-    const pen = this.ground.getContext('2d');
-    pen.fillStyle = colours.floor;
-    pen.fillRect(0, 0, width, height);
-    for (let cell = 0; cell < floor.length; cell += 1) {
-      if (floor[cell]) continue;
-      pen.fillStyle = letters[cell] === 'T' || letters[cell] === 'W' ? colours.shelf : colours.wall;
-      pen.fillRect(cell % width, Math.floor(cell / width), 1, 1);
-    }
   }
 
-  drawCells(canvas) {
-    const { view, map } = this;
-    this.pen.drawImage(canvas, view.left, view.top, map.width * view.scale, map.height * view.scale);
-  }
-
-  drawGround(numbered) {
-    const { pen, view, map, colours, canvas } = this;
-    pen.setTransform(1, 0, 0, 1, 0, 0);
-    pen.globalAlpha = 1;
-    pen.fillStyle = colours.card;
-    pen.fillRect(0, 0, canvas.width, canvas.height);
-    pen.imageSmoothingEnabled = false;
-    this.drawCells(this.ground);
+  drawOnFloor() {
     if (this.shows.heat) this.drawHeat();
     if (this.shows.roomy) this.drawRoomy();
-    pen.strokeStyle = colours.line;
-    pen.lineWidth = 1;
-    pen.strokeRect(view.left, view.top, map.width * view.scale, map.height * view.scale);
-    if (numbered) this.drawGrid();
   }
 
   // Once, when it is first asked for.
@@ -1252,24 +1391,70 @@ class MapGround extends MapPlace {
     this.mostHeat = heat.most;
     this.heatCanvas.getContext('2d').putImageData(this.heatPixels, 0, 0);
   }
+}
 
-  drawGrid() {
-    const { pen, view, colours } = this;
-    const { height, width } = this.map;
-    pen.strokeStyle = colours.grid;
-    pen.lineWidth = 1;
+// ---- the order of a step on the map: where robots go, who pushes whom, and whose turn it is
+
+// the width of a cell from which on a robot's turn is written, in pixels
+const LEAST_TURN = 26;
+
+class MapTurns extends MapGround {
+  // An arrow from one point to another.
+  drawArrow(x, y, toX, toY, head) {
+    const { pen } = this;
+    const angle = Math.atan2(toY - y, toX - x);
     pen.beginPath();
-    for (let column = 0; column <= width; column += 1) {
-      const x = Math.round(view.left + column * view.scale) + 0.5;
-      pen.moveTo(x, view.top);
-      pen.lineTo(x, view.top + height * view.scale);
-    }
-    for (let row = 0; row <= height; row += 1) {
-      const y = Math.round(view.top + row * view.scale) + 0.5;
-      pen.moveTo(view.left, y);
-      pen.lineTo(view.left + width * view.scale, y);
+    pen.moveTo(x, y);
+    pen.lineTo(toX, toY);
+    for (const side of [-0.5, 0.5]) {
+      pen.moveTo(toX, toY);
+      pen.lineTo(toX - head * Math.cos(angle + side), toY - head * Math.sin(angle + side));
     }
     pen.stroke();
+  }
+
+  // Lines from robots to their next cells, and arrows from robots to those that they push.
+  drawSteps({ next, pushedBy }) {
+    const { pen, view, colours, ratio, xs, ys } = this;
+    if (next === null) return;
+    const wide = Math.max(1.5 * ratio, Math.min(view.scale / 12, 5 * ratio));
+    pen.lineCap = 'round';
+    const pushers = new Set(pushedBy);
+    pushedBy.forEach((pusher, robot) => {
+      if (next[robot] === this.replay.state.cells[robot] || pushers.has(robot)) return;
+      const [x, y] = this.pointOf(next[robot]);
+      pen.strokeStyle = colours.ink;
+      pen.lineWidth = wide;
+      this.drawArrow(xs[robot], ys[robot], xs[robot] + (x - xs[robot]) * 0.85, ys[robot] + (y - ys[robot]) * 0.85, view.scale * 0.16);
+    });
+    pushedBy.forEach((pusher, robot) => {
+      if (pusher < 0) return;
+      pen.strokeStyle = colours.mark;
+      pen.lineWidth = wide * 1.5;
+      const [fromX, fromY] = [xs[pusher], ys[pusher]];
+      this.drawArrow(fromX, fromY, fromX + (xs[robot] - fromX) * 0.8, fromY + (ys[robot] - fromY) * 0.8, view.scale * 0.24);
+    });
+    pen.lineCap = 'butt';
+  }
+
+  // The turn of each robot, above it.
+  drawTurns() {
+    const { pen, view, colours, ratio, replay } = this;
+    const step = replay.turnsNow();
+    this.drawSteps(step);
+    if (view.scale < LEAST_TURN * ratio) return;
+    const size = Math.min(view.scale * 0.24, 18 * ratio);
+    pen.font = `600 ${size.toFixed(1)}px system-ui, sans-serif`;
+    pen.textAlign = 'left';
+    pen.textBaseline = 'top';
+    step.turns.forEach((turn, robot) => {
+      const [left, top] = [this.xs[robot] - view.scale * 0.47, this.ys[robot] - view.scale * 0.47];
+      const text = `${turn}.`;
+      pen.fillStyle = colours.card;
+      pen.fillRect(left, top, pen.measureText(text).width + 4 * ratio, size + 3 * ratio);
+      pen.fillStyle = colours.ink;
+      pen.fillText(text, left + 2 * ratio, top + 2 * ratio);
+    });
   }
 }
 
@@ -1285,10 +1470,10 @@ const SMALL_CELL = 20;
 const CROWDED = 0.24;
 const CROWDED_SIZE = 0.6;
 
-class MapView extends MapGround {
+class MapView extends MapTurns {
   constructor(canvas, replay) {
     super(canvas, replay);
-    this.shows = { heat: false, goals: true, lines: true, roomy: false };
+    this.shows = { heat: false, goals: true, lines: true, roomy: false, turns: false };
     this.picked = null;
     this.follows = false;
     this.pulse = 0;
@@ -1378,6 +1563,7 @@ class MapView extends MapGround {
     if (this.shows.lines) this.drawLines();
     this.drawRobots(fraction);
     if (this.shows.goals) this.drawGoals();
+    if (this.shows.turns) this.drawTurns();
     if (picked !== null) this.drawQueue(picked);
     this.drawFaults();
   }
@@ -1768,7 +1954,7 @@ class RobotTable {
       name.append(button);
       row.append(name);
       body.append(row);
-      const cells = Array.from({ length: 5 }, () => textCell(row));
+      const cells = Array.from({ length: 6 }, () => textCell(row));
       return { row, dot, button, cells, shown: [] };
     });
   }
@@ -1787,6 +1973,7 @@ class RobotTable {
   // Only what changed is written.
   draw(colours, picked) {
     const { replay } = this;
+    const { turns } = replay.turnsNow();
     const { cells, queues, shut, frame } = replay.state;
     for (let robot = 0; robot < replay.robots; robot += 1) {
       const { row, dot, button, cells: places, shown } = this.rows[robot];
@@ -1794,7 +1981,7 @@ class RobotTable {
       const idle = queue.length === 0;
       const wait = replay.waitOf(robot);
       const goal = idle ? '\u2013' : queue[0].cell;
-      const texts = [cells[robot], goal, queue.length, wait ?? '\u2013', stateText(shut[robot], idle)];
+      const texts = [cells[robot], goal, queue.length, wait ?? '\u2013', turns[robot], stateText(shut[robot], idle)];
       texts.forEach((text, place) => {
         if (shown[place] === text) return;
         shown[place] = text;
@@ -1802,13 +1989,13 @@ class RobotTable {
       });
       const colour = idle ? colours.idle : colours.robots[robot].fill;
       const marks = [colour, replay.eldest[frame] === robot, picked === robot];
-      if (shown[5] !== marks[0]) dot.style.background = marks[0];
-      if (shown[6] !== marks[1]) row.classList.toggle('eldest', marks[1]);
-      if (shown[7] !== marks[2]) {
+      if (shown[6] !== marks[0]) dot.style.background = marks[0];
+      if (shown[7] !== marks[1]) row.classList.toggle('eldest', marks[1]);
+      if (shown[8] !== marks[2]) {
         row.classList.toggle('picked', marks[2]);
         button.setAttribute('aria-pressed', marks[2]);
       }
-      [shown[5], shown[6], shown[7]] = marks;
+      [shown[6], shown[7], shown[8]] = marks;
     }
   }
 }
@@ -2134,13 +2321,13 @@ class Player {
 
 // ---- the address: what is shown, as words after `#`
 
-const SHOWN = ['heat', 'goals', 'lines', 'roomy'];
+const SHOWN = ['heat', 'goals', 'lines', 'roomy', 'turns'];
 // what is drawn if nothing is said
 const SHOWN_FIRST = ['goals', 'lines'];
 const ADDRESS_EVERY = 300;
 
 // `t=140` is the tick at which the clock is 140, `robot=3` the picked robot, `zoom=2.5,10,7` shows the map 2.5 times as
-// large with column 10, row 7 in the middle, and `heat=1&goals=0&lines=0&roomy=1` says what is drawn. `heat=stood-100` is the
+// large with column 10, row 7 in the middle, and `heat=1&goals=0&lines=0&roomy=1&turns=1` says what is drawn. `heat=stood-100` is the
 // heat of cells on which robots stood in the last 100 ticks.
 class Address {
   constructor(page) {
@@ -2198,7 +2385,6 @@ class Address {
 
 // ---- what the page shows
 
-const MOST_BANNERS = 5;
 const HEAT_TEXTS = { came: 'a robot came to the cell', stood: 'a robot with an errand stood on the cell' };
 
 function element(name) {
@@ -2251,20 +2437,7 @@ class Page {
     dataset.faultRobots = faults.map((fault) => fault.robots.join(',')).join(' ');
     element('judged').textContent = faults.length === 0 ? 'judged legal' : '';
     element('verdict').hidden = faults.length === 0;
-    const lines = faults.slice(0, MOST_BANNERS).map((fault) => {
-      const line = document.createElement('p');
-      const button = document.createElement('button');
-      button.type = 'button';
-      button.className = 'jump';
-      button.textContent = `Show tick ${this.replay.clockAt(fault.frame)}`;
-      button.addEventListener('click', () => this.player.jump(fault.frame));
-      const of = this.replay.chapters.length > 1 ? `Chapter ${fault.chapter} is ` : 'This trace is ';
-      line.append(`${of}${faultText(fault)}. `, button);
-      return line;
-    });
-    if (faults.length > MOST_BANNERS) lines.push(`${faults.length - MOST_BANNERS} more chapters are illegal.`);
-    if (conflicts > 0) lines.push(conflictsText(conflicts));
-    element('verdict').replaceChildren(...lines);
+    element('verdict').replaceChildren(...bannerLines(this.replay, (frame) => this.player.jump(frame)));
     showMarks(element('marks'), this.replay);
   }
 
@@ -2339,7 +2512,8 @@ class Page {
       this.table.draw(this.colours, this.view.picked);
       showEntries(element('entries'), replay);
       this.events.draw();
-      element('picked').textContent = this.view.picked === null ? '' : robotText(replay, this.view.picked);
+      const { picked } = this.view;
+      element('picked').textContent = picked === null ? '' : `${robotText(replay, picked)} ${turnText(replay.turnsNow(), picked)}`;
     }
     this.publish();
     this.address.follow();
@@ -2369,6 +2543,9 @@ class Page {
     if (!this.player.playing) {
       dataset.waits = queues.map((_, robot) => replay.waitOf(robot) ?? '-').join(' ');
       dataset.moves = replay.moveStart[frame + 1];
+      const { turns, pushedBy } = replay.turnsNow();
+      dataset.turns = turns.join(' ');
+      dataset.pushes = pushedBy === null ? 'unknown' : pushedBy.join(' ');
     }
   }
 
@@ -2413,6 +2590,7 @@ class Page {
     element(`show-${name}`).checked = on;
     if (name === 'heat') element('heat-scale').hidden = !on;
     if (name === 'roomy') this.tellRoomy(on);
+    if (name === 'turns') for (const item of document.querySelectorAll('.of-turns')) item.hidden = !on;
   }
 
   show(name, on) {
@@ -2547,6 +2725,7 @@ function keysOf(page) {
     g: toggle('goals'),
     l: toggle('lines'),
     r: toggle('roomy'),
+    p: toggle('turns'),
     j: () => {
       page.chooseHeat('stood', 100);
       page.draw();
@@ -2556,12 +2735,11 @@ function keysOf(page) {
   };
 }
 
-function listenToKeys(page) {
-  const keys = keysOf(page);
+function listenToKeys(keys) {
   window.addEventListener('keydown', (event) => {
     // on many keyboards [ and ] are typed with AltGr or Option
     const typed = event.key === '[' || event.key === ']';
-    if (event.metaKey || ((event.ctrlKey || event.altKey) && !typed) || element('help').open) return;
+    if (event.metaKey || ((event.ctrlKey || event.altKey) && !typed) || document.querySelector('dialog[open]') !== null) return;
     const key = keys[event.key] ?? keys[event.key.toLowerCase()];
     if (key === undefined) return;
     // a button or a box that has the focus keeps the space bar
@@ -2581,7 +2759,7 @@ function returnFocus() {
   window.addEventListener('keydown', () => { byPointer = false; }, true);
   for (const name of ['click', 'change']) {
     window.addEventListener(name, () => {
-      if (byPointer && !element('help').open) element('map').focus({ preventScroll: true });
+      if (byPointer && document.querySelector('dialog[open]') === null) document.querySelector('canvas').focus({ preventScroll: true });
     });
   }
 }
@@ -2626,12 +2804,11 @@ function listenToControls(page) {
 
 // One pointer moves the map, or picks a robot if it does not move; two zoom it.
 class MapPointers {
-  constructor(page) {
+  constructor(page, canvas) {
     this.page = page;
-    this.canvas = element('map');
+    this.canvas = canvas;
     this.held = new Map();
     this.moved = false;
-    const { canvas } = this;
     canvas.addEventListener('wheel', (event) => this.wheel(event), { passive: false });
     canvas.addEventListener('pointerdown', (event) => this.down(event));
     canvas.addEventListener('pointermove', (event) => this.move(event));
@@ -2722,27 +2899,971 @@ function listenToCharts(page) {
 }
 
 function listen(page) {
-  listenToKeys(page);
+  listenToKeys(keysOf(page));
   listenToControls(page);
   listenToCharts(page);
   returnFocus();
-  page.pointers = new MapPointers(page);
+  page.pointers = new MapPointers(page, element('map'));
   window.addEventListener('resize', () => page.repaint());
   window.addEventListener('hashchange', (event) => page.address.read(new URL(event.newURL).hash));
   document.addEventListener('visibilitychange', () => { page.player.then = performance.now(); });
   matchMedia('(prefers-color-scheme: dark)').addEventListener('change', () => page.repaint());
 }
 
+// ---- plans: their placements and conflicts
+
+// the sign of 0 where a cell is told by six signs, and what stands before them
+const FIRST_SIGN = 63;
+const JUMP = 33;
+const CELL_SIGNS = 6;
+const LINE_END = 10;
+
+// By how much the cell of a robot changes at each letter of a step.
+function stepDeltas(width) {
+  const deltas = new Int32Array(128);
+  deltas[110] = -width;
+  deltas[115] = width;
+  deltas[119] = -1;
+  deltas[101] = 1;
+  return deltas;
+}
+
+function cellSignsAt(text, at) {
+  let cell = 0;
+  for (let place = 0; place < CELL_SIGNS; place += 1) cell = cell * 64 + text.charCodeAt(at + place) - FIRST_SIGN;
+  return cell;
+}
+
+// How many robots the line at this place of the text has.
+function countSteps(text, at) {
+  let count = 0;
+  for (let place = at; place < text.length && text.charCodeAt(place) !== LINE_END; place += 1) {
+    if (text.charCodeAt(place) === JUMP) place += CELL_SIGNS;
+    count += 1;
+  }
+  return count;
+}
+
+// The cells of all placements, one after the other, from a text with a line for each; and where these lines end. A robot is
+// nowhere, at -1, where a placement has fewer cells than the first one.
+function placementsOf(width, text, from, count) {
+  const robots = countSteps(text, from);
+  const cells = new Int32Array(robots * count).fill(-1);
+  const before = new Int32Array(robots);
+  const deltas = stepDeltas(width);
+  let at = from;
+  for (let time = 0; time < count; time += 1) {
+    const start = time * robots;
+    let robot = 0;
+    for (let code = text.charCodeAt(at); code !== LINE_END; code = text.charCodeAt(at)) {
+      if (robot < robots) before[robot] = code === JUMP ? cellSignsAt(text, at + 1) : before[robot] + deltas[code];
+      at += code === JUMP ? 1 + CELL_SIGNS : 1;
+      robot += 1;
+    }
+    at += 1;
+    cells.set(before.subarray(0, robot), start);
+    // what comes after a robot that was nowhere is told from cell 0
+    before.fill(0, robot);
+  }
+  return { robots, cells, end: at };
+}
+
+// For each robot, the time from which on it stays on its last cell.
+function timesDone(robots, cells) {
+  const count = robots === 0 ? 0 : cells.length / robots;
+  const done = new Int32Array(robots);
+  let left = Array.from({ length: robots }, (_, robot) => robot);
+  for (let time = count - 2; time >= 0 && left.length > 0; time -= 1) {
+    left = left.filter((robot) => {
+      if (cells[time * robots + robot] === cells[(count - 1) * robots + robot]) return true;
+      done[robot] = time + 1;
+      return false;
+    });
+  }
+  return done;
+}
+
+// How many robots came to another cell, up to each time.
+function movesUpTo(robots, cells) {
+  const count = robots === 0 ? 1 : cells.length / robots;
+  const moves = new Float64Array(count);
+  for (let time = 1; time < count; time += 1) {
+    let moved = 0;
+    for (let at = time * robots; at < (time + 1) * robots; at += 1) if (cells[at] !== cells[at - robots]) moved += 1;
+    moves[time] = moves[time - 1] + moved;
+  }
+  return moves;
+}
+
+// How many of these times have come, at each time up to the last.
+function countUpTo(times, last) {
+  const counts = new Uint32Array(last + 1);
+  for (const time of times) counts[time] += 1;
+  for (let time = 1; time <= last; time += 1) counts[time] += counts[time - 1];
+  return counts;
+}
+
+const CONFLICT_TEXTS = {
+  length: () => 'another number of cells than robots',
+  'off-floor': (one) => `robot ${one} is on no floor`,
+  'not-adjacent': (one) => `robot ${one} goes to a cell that is no neighbour`,
+  vertex: (one, other) => `robots ${one} and ${other} are on one cell`,
+  swap: (one, other) => `robots ${one} and ${other} exchange their cells`,
+};
+
+// A line `invalid TIME KIND ROBOT..`, as `fleet check --all` prints it.
+function conflictOf(line) {
+  const [, time, kind, ...robots] = line.split(' ');
+  const numbers = robots.map(Number);
+  return { frame: Number(time), robots: numbers, text: (CONFLICT_TEXTS[kind] ?? (() => kind))(...numbers) };
+}
+
+// ---- runs: plans and traces that are shown next to each other, each from its first tick on
+
+function byFrame(conflicts) {
+  const found = new Map();
+  for (const conflict of conflicts) {
+    if (!found.has(conflict.frame)) found.set(conflict.frame, []);
+    found.get(conflict.frame).push(conflict);
+  }
+  return found;
+}
+
+// A plan, from its text: a line with the numbers of placements and of conflicts, then these.
+class PlanRun {
+  constructor(map, text) {
+    const head = text.indexOf('\n');
+    const [, placements, conflicts] = text.slice(0, head).split(' ').map(Number);
+    const { robots, cells, end } = placementsOf(map.width, text, head + 1, placements);
+    this.kind = 'plan';
+    this.robots = robots;
+    this.all = cells;
+    this.last = Math.max(0, placements - 1);
+    this.conflictCount = conflicts;
+    this.conflicts = linesOf(text.slice(end)).map(conflictOf);
+    this.atFrame = byFrame(this.conflicts);
+    this.done = timesDone(robots, cells);
+    this.moves = movesUpTo(robots, cells);
+    this.doneCount = countUpTo(this.done, this.last);
+    this.cost = this.done.reduce((sum, time) => sum + time, 0);
+    this.span = this.done.reduce((most, time) => Math.max(most, time), 0);
+    this.goals = this.placementAt(this.last);
+    this.seek(0);
+  }
+
+  placementAt(frame) {
+    return this.all.subarray(frame * this.robots, (frame + 1) * this.robots);
+  }
+
+  seek(frame) {
+    this.frame = Math.min(frame, this.last);
+    this.cells = this.placementAt(this.frame);
+    this.next = this.placementAt(Math.min(this.frame + 1, this.last));
+  }
+
+  // A plan says no goals of its own here: they are the last cells.
+  goalOf(robot) {
+    return this.goals[robot];
+  }
+
+  isIdle(robot) {
+    return this.frame >= this.done[robot];
+  }
+
+  faultsAt(frame) {
+    return this.atFrame.get(frame) ?? [];
+  }
+
+  pathOf(robot, from, to) {
+    const first = Math.max(0, from);
+    const cells = [];
+    for (let frame = first; frame <= Math.min(this.last, to); frame += 1) cells.push(this.all[frame * this.robots + robot]);
+    return { cells, here: this.frame - first };
+  }
+
+  title() {
+    return this.conflictCount === 0 ? 'plan, valid' : 'plan, not valid';
+  }
+
+  figures() {
+    return [
+      ['robots', this.robots], ['steps', this.last], ['at their last cell', this.doneCount[this.frame] ?? 0],
+      ['moves so far', this.moves[this.frame]], ['sum of costs', this.cost], ['makespan', this.span],
+      ['conflicts', this.conflictCount],
+    ];
+  }
+}
+
+// What is wrong in a replay, by frames: conflicts, and what the judge names if that is none.
+function conflictsIn(replay) {
+  const notes = replay.events.map((events, frame) => events.filter(isConflict).map(({ entry }) => (
+    { frame, robots: entry[1].robots, text: entry[1].detail }
+  )));
+  const others = replay.faults.filter((fault) => fault.rule !== 4 && fault.at !== 0)
+    .map((fault) => ({ frame: fault.frame, robots: fault.robots, text: faultText(fault) }));
+  return [...notes.flat(), ...others].sort((one, other) => one.frame - other.frame);
+}
+
+// A trace, from its text: a line with the judge's verdict, then the trace.
+class TraceRun {
+  constructor(map, text) {
+    const head = text.indexOf('\n');
+    const verdicts = verdictsOf([text.slice('trace '.length, head)]);
+    this.replay = new Replay(map, tracesOf(text.slice(head + 1)), verdicts);
+    const { replay } = this;
+    this.kind = 'trace';
+    this.robots = replay.robots;
+    this.last = replay.last;
+    this.conflicts = conflictsIn(replay);
+    this.conflictCount = this.conflicts.length;
+    this.seek(0);
+  }
+
+  seek(frame) {
+    const { replay } = this;
+    this.frame = Math.min(frame, this.last);
+    replay.seek(this.frame);
+    this.cells = replay.state.cells;
+    this.next = replay.cellsAfter();
+  }
+
+  goalOf(robot) {
+    const queue = this.replay.state.queues[robot];
+    return queue.length > 0 ? queue[0].cell : -1;
+  }
+
+  isIdle(robot) {
+    return this.replay.state.queues[robot].length === 0;
+  }
+
+  faultsAt(frame) {
+    return frame > this.last ? [] : this.replay.faultsAt(frame);
+  }
+
+  pathOf(robot, from, to) {
+    return this.replay.pathOf(robot, from, to);
+  }
+
+  title() {
+    const { chapters, faults } = this.replay;
+    return `trace, chapter ${chapters[0].number}, ${faults.length === 0 ? 'legal' : faultText(faults[0])}`;
+  }
+
+  figures() {
+    const { replay, frame } = this;
+    const { arrivals, unfinished, wait } = replay;
+    const rate = frame === 0 ? '\u2013' : (arrivals[frame] / frame).toFixed(3);
+    return [
+      ['robots', this.robots], ['ticks', this.last], ['arrivals', arrivals[frame]], ['arrivals a tick', rate],
+      ['unfinished', unfinished[frame]], ['longest wait', wait[frame] < 0 ? '\u2013' : wait[frame]],
+      ['moves so far', replay.moveStart[frame + 1]],
+    ];
+  }
+}
+
+// The texts of the runs that a page carries; none if it carries chapters. Each begins with a line `plan ..` or `trace ..`.
+function runTextsOf(text) {
+  const starts = [];
+  for (let at = 0; /^(plan|trace) /.test(text.slice(at, at + 6)) && starts.length < 2;) {
+    starts.push(at);
+    at = endOfRun(text, at);
+  }
+  return starts.map((start, place) => text.slice(start, starts[place + 1] ?? text.length));
+}
+
+// A run ends after as many lines as its head says.
+function endOfRun(text, from) {
+  const head = text.slice(from, text.indexOf('\n', from)).split(' ');
+  let lines = head[0] === 'plan' ? 1 + Number(head[1]) + Math.min(Number(head[2]), MOST_CONFLICTS) : 2;
+  let at = from;
+  for (; lines > 0 && at >= 0; lines -= 1) at = text.indexOf('\n', at) + 1 || text.length;
+  return at;
+}
+
+function runOf(map, text) {
+  return text.startsWith('plan ') ? new PlanRun(map, text) : new TraceRun(map, text);
+}
+
+// The runs under one clock: each stands at its end when it is over.
+class Course {
+  constructor(runs) {
+    this.runs = runs;
+    this.last = Math.max(...runs.map((run) => run.last));
+    this.robots = Math.max(...runs.map((run) => run.robots));
+    this.state = { frame: 0 };
+  }
+
+  seek(frame) {
+    this.state.frame = frame;
+    for (const run of this.runs) run.seek(frame);
+  }
+
+  go() {
+    this.seek(this.state.frame + 1);
+  }
+
+  faultsAt(frame) {
+    return this.runs.flatMap((run) => run.faultsAt(frame));
+  }
+}
+
+// ---- thousands of robots at once
+
+// Discs in a picture of the canvas's size, which is written to the canvas as a whole: to draw each of them costs too much.
+class Stamps {
+  constructor(view) {
+    this.view = view;
+    this.canvas = document.createElement('canvas');
+    this.pen = this.canvas.getContext('2d', { willReadFrequently: true });
+  }
+
+  // The map without robots as pixels, anew where the view or its colours have changed.
+  readGround() {
+    const { canvas, pen, view } = this;
+    const { scale, left, top } = view.view;
+    const key = `${scale} ${left} ${top} ${view.canvas.width} ${view.canvas.height}`;
+    if (this.key === key && this.colours === view.colours) return;
+    [this.key, this.colours] = [key, view.colours];
+    canvas.width = view.canvas.width;
+    canvas.height = view.canvas.height;
+    const own = view.pen;
+    view.pen = pen;
+    view.drawGround(false);
+    view.pen = own;
+    const { width, height } = canvas;
+    this.ground = new Uint32Array(pen.getImageData(0, 0, width, height).data.buffer);
+    this.picture = pen.createImageData(width, height);
+    this.pixels = new Uint32Array(this.picture.data.buffer);
+    this.colourPixels = this.pixelsOf([...view.hues.map((hue) => hue.fill), view.colours.idle]);
+    this.spans = this.spansOf(scale);
+  }
+
+  pixelsOf(colours) {
+    const { pen } = this;
+    colours.forEach((colour, place) => {
+      pen.fillStyle = colour;
+      pen.fillRect(place, 0, 1, 1);
+    });
+    return new Uint32Array(pen.getImageData(0, 0, colours.length, 1).data.buffer);
+  }
+
+  // For each row of a disc, from the middle, how far it reaches to both sides; a square where discs would be too small.
+  spansOf(scale) {
+    const { ratio } = this.view;
+    const radius = Math.max(scale * (scale < LEAST_DISC * ratio ? 0.5 : 0.44), ratio);
+    const high = Math.max(1, Math.floor(radius));
+    const rows = Array.from({ length: 2 * high }, (_, row) => row - high);
+    if (scale < LEAST_DISC * ratio) return rows.map((row) => [row, high]);
+    return rows.map((row) => [row, Math.round(Math.sqrt(Math.max(0, radius * radius - (row + 0.5) * (row + 0.5))))]);
+  }
+
+  draw() {
+    this.readGround();
+    const { view, pixels, colourPixels } = this;
+    const { run, xs, ys } = view;
+    pixels.set(this.ground);
+    for (let robot = 0; robot < run.robots; robot += 1) {
+      // of a robot that is nowhere the place is no number
+      if (!view.isOnCanvas(xs[robot], ys[robot])) continue;
+      this.stamp(Math.round(xs[robot]), Math.round(ys[robot]), colourPixels[run.isIdle(robot) ? HUES : robot % HUES]);
+    }
+    view.pen.putImageData(this.picture, 0, 0);
+  }
+
+  stamp(x, y, colour) {
+    const { pixels, spans } = this;
+    const { width, height } = this.canvas;
+    for (const [row, reach] of spans) {
+      const line = y + row;
+      if (line < 0 || line >= height) continue;
+      const end = line * width + Math.min(width, x + reach);
+      for (let at = line * width + Math.max(0, x - reach); at < end; at += 1) pixels[at] = colour;
+    }
+  }
+}
+
+// ---- a run on its canvas
+
+// hues of robots; robots of one hue are drawn together
+const HUES = 24;
+// from this width of a cell on, in pixels, robots are discs, and below it squares
+const LEAST_DISC = 7;
+const HEADING = 0.6;
+// more robots than this on the canvas are drawn at once, without numbers
+const MOST_DISCS = 1500;
+// the least height of a map, in pixels
+const LEAST_RUN_HIGH = 60;
+
+// A colour for each hue, and robots by their hues.
+function hueColours(floor) {
+  return Array.from({ length: HUES }, (_, hue) => robotColour(hue, floor));
+}
+
+class RunView extends MapFloor {
+  constructor(canvas, map, run) {
+    super(canvas, map);
+    this.run = run;
+    this.shows = { goals: false, lines: false };
+    this.picked = null;
+    this.pulse = 0;
+    this.xs = new Float32Array(run.robots);
+    this.ys = new Float32Array(run.robots);
+    this.stamps = new Stamps(this);
+    this.leastHigh = LEAST_RUN_HIGH;
+  }
+
+  // In one column each map may be as high as most of the window; else its figures and the time stay in sight.
+  room() {
+    const { innerHeight } = window;
+    if (matchMedia('(max-width: 900px)').matches) return Math.max(LEAST_RUN_HIGH, innerHeight * 0.6);
+    const below = this.canvas.parentElement.querySelector('dl').offsetHeight + element('time').offsetHeight + 2 * BELOW;
+    return Math.max(LEAST_HIGH, innerHeight - this.above() - below);
+  }
+
+  // Where the robots are drawn. One that is nowhere, or off the map, is not drawn.
+  placeRobots(fraction) {
+    const { run, map, view, xs, ys } = this;
+    const { width } = map;
+    const cells = map.floor.length;
+    const part = Math.max(0, fraction);
+    for (let robot = 0; robot < run.robots; robot += 1) {
+      const cell = run.cells[robot];
+      if (cell < 0 || cell >= cells) {
+        xs[robot] = NaN;
+        continue;
+      }
+      const other = run.next[robot] >= 0 && run.next[robot] < cells ? run.next[robot] : cell;
+      const [column, row] = [cell % width, Math.floor(cell / width)];
+      xs[robot] = view.left + (column + (other % width - column) * part + 0.5) * view.scale;
+      ys[robot] = view.top + (row + (Math.floor(other / width) - row) * part + 0.5) * view.scale;
+    }
+  }
+
+  isOnCanvas(x, y) {
+    const { canvas, view } = this;
+    return x > -view.scale && y > -view.scale && x < canvas.width + view.scale && y < canvas.height + view.scale;
+  }
+
+  robotAt(x, y, near) {
+    let best = null;
+    let least = Math.max(this.view.scale * 0.55, near * this.ratio);
+    for (let robot = 0; robot < this.run.robots; robot += 1) {
+      const far = Math.hypot(this.xs[robot] - x, this.ys[robot] - y);
+      if (far < least) [best, least] = [robot, far];
+    }
+    return best;
+  }
+
+  countOnCanvas() {
+    let count = 0;
+    for (let robot = 0; robot < this.run.robots; robot += 1) if (this.isOnCanvas(this.xs[robot], this.ys[robot])) count += 1;
+    return count;
+  }
+
+  draw(fraction) {
+    this.placeRobots(this.run.frame === this.run.last ? 0 : fraction);
+    const many = this.countOnCanvas() > MOST_DISCS;
+    const numbered = !many && this.view.scale >= LEAST_NUMBERED * this.ratio;
+    if (many) this.stamps.draw();
+    else this.drawGround(numbered);
+    if (this.picked !== null && this.picked < this.run.robots) this.drawPath(this.picked);
+    if (this.shows.lines) this.drawLines();
+    if (this.shows.goals) this.drawGoals();
+    if (!many) this.drawRobots();
+    if (numbered) this.drawHeadings();
+    if (numbered) this.drawNumbers();
+    this.drawPicked();
+    this.drawFaults();
+  }
+
+  // Calls `put` with each robot that is on the canvas, those of one hue together, after `colour` with that hue.
+  eachByHue(colour, put) {
+    const { run, xs, ys } = this;
+    for (let hue = 0; hue < HUES; hue += 1) {
+      colour(hue);
+      for (let robot = hue; robot < run.robots; robot += HUES) {
+        if (this.isOnCanvas(xs[robot], ys[robot])) put(robot, xs[robot], ys[robot]);
+      }
+    }
+  }
+
+  drawRobots() {
+    const { pen, view, run } = this;
+    const disc = view.scale >= LEAST_DISC * this.ratio;
+    const radius = Math.max(view.scale * (disc ? 0.42 : 0.5), 0.75 * this.ratio);
+    const put = disc ? (x, y) => {
+      pen.beginPath();
+      pen.arc(x, y, radius, 0, 2 * Math.PI);
+      pen.fill();
+    } : (x, y) => pen.fillRect(x - radius, y - radius, 2 * radius, 2 * radius);
+    const idle = [];
+    this.eachByHue((hue) => { pen.fillStyle = this.hues[hue].fill; }, (robot, x, y) => {
+      if (run.isIdle(robot)) idle.push(robot);
+      else put(x, y);
+    });
+    pen.fillStyle = this.colours.idle;
+    for (const robot of idle) put(this.xs[robot], this.ys[robot]);
+  }
+
+  // A ring round the picked robot.
+  drawPicked() {
+    const { pen, view, picked } = this;
+    if (picked === null || !this.isOnCanvas(this.xs[picked], this.ys[picked])) return;
+    pen.strokeStyle = this.colours.accent;
+    pen.lineWidth = Math.max(2 * this.ratio, view.scale / 10);
+    pen.beginPath();
+    pen.arc(this.xs[picked], this.ys[picked], Math.max(view.scale * 0.62, 5 * this.ratio), 0, 2 * Math.PI);
+    pen.stroke();
+  }
+
+  // A short line from each robot that moves, in the direction of its next cell.
+  drawHeadings() {
+    const { pen, view, run, map } = this;
+    pen.strokeStyle = this.colours.ink;
+    pen.lineWidth = Math.max(1, Math.min(view.scale / 12, 4 * this.ratio));
+    pen.beginPath();
+    for (let robot = 0; robot < run.robots; robot += 1) {
+      const [from, to] = [run.cells[robot], run.next[robot]];
+      const [x, y] = [this.xs[robot], this.ys[robot]];
+      if (from === to || from < 0 || to < 0 || !this.isOnCanvas(x, y)) continue;
+      const across = Math.sign(to % map.width - from % map.width);
+      const down = Math.sign(Math.floor(to / map.width) - Math.floor(from / map.width));
+      pen.moveTo(x + across * view.scale * 0.3, y + down * view.scale * 0.3);
+      pen.lineTo(x + across * view.scale * HEADING, y + down * view.scale * HEADING);
+    }
+    pen.stroke();
+  }
+
+  drawNumbers() {
+    const { pen, view, run } = this;
+    const part = run.robots > 1000 ? 0.3 : run.robots > 100 ? 0.36 : 0.46;
+    pen.font = `600 ${Math.max(view.scale * part, 5.5 * this.ratio).toFixed(1)}px system-ui, sans-serif`;
+    pen.textAlign = 'center';
+    pen.textBaseline = 'middle';
+    this.eachByHue(() => {}, (robot, x, y) => {
+      pen.fillStyle = run.isIdle(robot) ? this.colours.digitsOnIdle : this.hues[robot % HUES].digits;
+      pen.fillText(String(robot), x, y);
+    });
+  }
+
+  // The goals of all robots, or of the picked one.
+  drawGoals() {
+    const { pen, view, run } = this;
+    const half = Math.max(view.scale * 0.38, this.ratio);
+    pen.lineWidth = Math.max(1, Math.min(view.scale / 12, 5 * this.ratio));
+    for (let robot = 0; robot < run.robots; robot += 1) {
+      const goal = run.goalOf(robot);
+      if (goal < 0 || run.isIdle(robot)) continue;
+      if (this.picked !== null && this.picked !== robot) continue;
+      const [x, y] = this.pointOf(goal);
+      if (!this.isOnCanvas(x, y)) continue;
+      pen.strokeStyle = this.hues[robot % HUES].fill;
+      pen.strokeRect(x - half, y - half, 2 * half, 2 * half);
+    }
+  }
+
+  drawLines() {
+    const { pen, view, run } = this;
+    pen.lineWidth = Math.max(1, Math.min(view.scale / 14, 5 * this.ratio));
+    pen.globalAlpha = run.robots > 100 ? 0.25 : 0.45;
+    this.eachByHue((hue) => { pen.strokeStyle = this.hues[hue].fill; }, (robot, x, y) => {
+      const goal = run.goalOf(robot);
+      if (goal < 0 || run.isIdle(robot)) return;
+      if (this.picked !== null && this.picked !== robot) return;
+      pen.beginPath();
+      pen.moveTo(x, y);
+      pen.lineTo(...this.pointOf(goal));
+      pen.stroke();
+    });
+    pen.globalAlpha = 1;
+  }
+
+  // Where the picked robot was, and where it goes, dotted.
+  drawPath(robot) {
+    const { pen, view, run } = this;
+    const { cells, here } = run.pathOf(robot, run.frame - PATH_FRAMES, run.frame + PATH_FRAMES);
+    pen.strokeStyle = this.hues[robot % HUES].fill;
+    pen.lineJoin = 'round';
+    pen.lineWidth = Math.max(2 * this.ratio, Math.min(view.scale / 6, 8 * this.ratio));
+    const along = (part, dashes, alpha) => {
+      pen.setLineDash(dashes);
+      pen.globalAlpha = alpha;
+      pen.beginPath();
+      for (const cell of part) if (cell >= 0) pen.lineTo(...this.pointOf(cell));
+      pen.stroke();
+    };
+    along(cells.slice(0, here + 1), [], 0.5);
+    along(cells.slice(here), [pen.lineWidth, pen.lineWidth * 1.5], 0.8);
+    pen.setLineDash([]);
+    pen.globalAlpha = 1;
+  }
+
+  // A frame round each robot that breaks a rule at this tick.
+  drawFaults() {
+    const { pen, view, run } = this;
+    const half = Math.max(view.scale * (0.55 + 0.2 * this.pulse), 6 * this.ratio);
+    pen.strokeStyle = this.colours.fault;
+    pen.lineWidth = Math.max(2 * this.ratio, Math.min(view.scale / 8, 8 * this.ratio));
+    for (const fault of run.faultsAt(run.frame)) {
+      for (const robot of fault.robots) {
+        const [x, y] = [this.xs[robot], this.ys[robot]];
+        if (this.isOnCanvas(x, y)) pen.strokeRect(x - half, y - half, 2 * half, 2 * half);
+      }
+    }
+  }
+}
+
+// ---- the page of runs: one or two, under one clock
+
+const MOST_CONFLICT_ROWS = 200;
+
+// All views at once, as the player draws them.
+class Views {
+  constructor(views) {
+    this.views = views;
+  }
+
+  set pulse(part) {
+    for (const view of this.views) view.pulse = part;
+  }
+
+  draw(fraction) {
+    for (const view of this.views) view.draw(fraction);
+  }
+}
+
+class RunsPage {
+  constructor(map, runs) {
+    this.map = map;
+    this.runs = runs;
+    this.replay = new Course(runs);
+    this.picked = null;
+    this.parts = runs.map((run, place) => this.partOf(run, place));
+    element('sides').replaceChildren(...this.parts.map((part) => part.section));
+    element('sides').classList.toggle('two', runs.length > 1);
+    this.views = this.parts.map((part) => part.view);
+    this.view = new Views(this.views);
+    this.player = new Player(this);
+    element('slider').max = String(this.replay.last);
+    this.conflicts = runs.flatMap((run, place) => run.conflicts.map((conflict) => ({ place, ...conflict })))
+      .sort((one, other) => one.frame - other.frame);
+    this.describe();
+    this.markConflicts();
+    this.player.setSpeed(8);
+    this.setShown('goals', this.replay.robots <= 100);
+    this.setShown('lines', false);
+    this.repaint();
+    const asked = /(?:^#|&)t=(\d+)/.exec(location.hash);
+    this.player.jump(asked === null ? 0 : Number(asked[1]));
+  }
+
+  // The map and the figures of a run.
+  partOf(run, place) {
+    const section = element('run-part').content.firstElementChild.cloneNode(true);
+    const canvas = section.querySelector('canvas');
+    const name = this.runs.length > 1 ? `${place === 0 ? 'A' : 'B'}: ${run.title()}` : run.title();
+    section.querySelector('h2').textContent = name;
+    section.setAttribute('aria-label', name);
+    canvas.setAttribute('aria-label', `Robots on the map, ${name}`);
+    const view = new RunView(canvas, this.map, run);
+    new MapPointers(this.pointed(view), canvas);
+    return { section, view, name, figures: section.querySelector('dl') };
+  }
+
+  // What the pointers of a map act on: its view, which the other follows.
+  pointed(view) {
+    const page = this;
+    return {
+      view,
+      hovered: null,
+      follow() {},
+      draw() { page.showAlike(view); },
+      pick(robot) { page.pick(robot); },
+      tellHovered() { page.tellCell(view, this.hovered); },
+    };
+  }
+
+  // All maps show what this one does.
+  showAlike(view) {
+    for (const other of this.views) if (other !== view) other.show(view.zoom, view.middle);
+    this.draw();
+  }
+
+  describe() {
+    const { map, runs, replay } = this;
+    const sizes = [`${map.width} \u00d7 ${map.height} cells`, `${replay.robots} robots`, `${replay.last} ticks`];
+    if (runs.length > 1) sizes.push('two runs');
+    element('summary').textContent = sizes.join(' \u00b7 ');
+    document.title = `Fleet: ${sizes.join(' \u00b7 ')}`;
+    const { dataset } = document.body;
+    dataset.runs = runs.map((run) => run.kind).join(' ');
+    dataset.conflicts = runs.map((run) => run.conflictCount).join(' ');
+    element('conflicts-card').hidden = this.conflicts.length === 0;
+    const all = runs.reduce((sum, run) => sum + run.conflictCount, 0);
+    const listed = all > this.conflicts.length ? `, the first ${this.conflicts.length} listed` : '';
+    element('conflicts-count').textContent = `${all}${listed}`;
+  }
+
+  markConflicts() {
+    const { last } = this.replay;
+    const frames = [...new Set(this.conflicts.map(({ frame }) => frame))];
+    const parts = new Set(frames.map((frame) => Math.round((last === 0 ? 0 : frame / last) * MOST_MARKS)));
+    element('marks').replaceChildren(...[...parts].map((part) => {
+      const mark = document.createElement('span');
+      mark.className = 'fault';
+      mark.style.setProperty('--part', String(part / MOST_MARKS));
+      return mark;
+    }));
+  }
+
+  repaint() {
+    const colours = readColours(0);
+    const hues = hueColours(luminanceOfHex(colours.floor));
+    for (const view of this.views) {
+      view.hues = hues;
+      view.paintLetters(colours);
+      view.resize();
+    }
+    this.draw();
+  }
+
+  draw() {
+    this.view.draw(this.player.fraction);
+    this.drawTexts();
+  }
+
+  drawTexts() {
+    const { frame } = this.replay.state;
+    if (this.drawnFrame === frame && this.player.playing) return;
+    this.drawnFrame = frame;
+    const clock = `tick ${frame} of ${this.replay.last}`;
+    element('slider').value = String(frame);
+    element('slider').setAttribute('aria-valuetext', clock);
+    element('clock').textContent = clock;
+    const now = performance.now();
+    if (!this.player.playing || !(now - this.listed < 200)) {
+      this.listed = now;
+      for (const { view, figures } of this.parts) showFigures(figures, view.run.figures());
+      this.listConflicts();
+      this.tellPicked();
+    }
+    this.publish();
+  }
+
+  // The conflicts round the tick that is shown; a click on one goes to its tick.
+  listConflicts() {
+    const { frame } = this.replay.state;
+    const first = firstFrom(this.conflicts, frame);
+    const from = Math.max(0, Math.min(first - LISTED_BEFORE, this.conflicts.length - MOST_CONFLICT_ROWS));
+    const items = this.conflicts.slice(from, from + MOST_CONFLICT_ROWS).map((conflict) => {
+      const item = document.createElement('li');
+      const button = document.createElement('button');
+      button.type = 'button';
+      button.dataset.frame = conflict.frame;
+      const of = this.runs.length > 1 ? `${'AB'[conflict.place]}, ` : '';
+      button.textContent = `${of}tick ${conflict.frame}: ${conflict.text}`;
+      item.classList.toggle('now', conflict.frame === frame);
+      item.append(button);
+      return item;
+    });
+    const list = element('events');
+    list.replaceChildren(...items);
+    const near = items[Math.min(first - from, items.length - 1)];
+    if (near !== undefined) list.scrollTop = near.offsetTop - list.offsetTop - list.clientHeight / 3;
+  }
+
+  // What the page shows, for tests and other tools.
+  publish() {
+    const { dataset } = document.body;
+    const { frame } = this.replay.state;
+    dataset.frame = frame;
+    dataset.playing = this.player.playing;
+    dataset.robot = this.picked ?? 'none';
+    dataset.zoom = this.views[0].zoom.toFixed(2);
+    if (this.player.playing) return;
+    dataset.figures = this.parts.map(({ view }) => view.run.figures().map(([name, value]) => `${name} ${value}`).join(', ')).join('; ');
+    dataset.cells = this.runs.map((run) => run.cells.slice(0, 1000).join(' ')).join(' / ');
+    dataset.faults = this.runs.map((run) => run.faultsAt(frame).map((fault) => fault.robots.join(',')).join(' ')).join(' / ');
+    history.replaceState(null, '', `#t=${frame}`);
+  }
+
+  announce() {
+    this.say(`tick ${this.replay.state.frame}, ${this.replay.faultsAt(this.replay.state.frame).length} conflicts`);
+  }
+
+  say(text) {
+    element('announce').textContent = text;
+  }
+
+  setShown(name, on) {
+    for (const view of this.views) view.shows[name] = on;
+    element(`show-${name}`).checked = on;
+  }
+
+  show(name, on) {
+    this.setShown(name, on);
+    this.draw();
+  }
+
+  zoomBy(factor) {
+    const [view] = this.views;
+    view.zoomAt(factor, view.canvas.width / 2, view.canvas.height / 2);
+    this.showAlike(view);
+  }
+
+  pan(right, down) {
+    const [view] = this.views;
+    view.pan(right, down);
+    this.showAlike(view);
+  }
+
+  showAll() {
+    const [view] = this.views;
+    view.fit();
+    this.showAlike(view);
+  }
+
+  pick(robot) {
+    this.picked = robot;
+    for (const view of this.views) view.picked = robot;
+    element('unpick').hidden = robot === null;
+    this.draw();
+    this.tellPicked();
+  }
+
+  pickNext(by) {
+    const { robots } = this.replay;
+    const from = this.picked === null ? (by > 0 ? -1 : 0) : this.picked;
+    this.pick((from + by + robots) % robots);
+  }
+
+  tellPicked() {
+    const { picked } = this;
+    const texts = this.runs.filter((run) => picked !== null && picked < run.robots).map((run) => {
+      const goal = run.goalOf(picked);
+      const bound = goal < 0 ? 'no goal' : `goal ${cellName(this.map, goal)}`;
+      return `cell ${cellName(this.map, run.cells[picked])}, ${bound}`;
+    });
+    element('picked').textContent = picked === null ? '' : `Robot ${picked}: ${texts.join('; ')}`;
+  }
+
+  tellCell(view, place) {
+    const cell = place === null ? -1 : view.cellAt(...place);
+    if (cell < 0) {
+      element('hover').textContent = '';
+      return;
+    }
+    const robots = [...view.run.cells.keys()].filter((robot) => view.run.cells[robot] === cell);
+    element('hover').textContent = `cell ${cellName(this.map, cell)}${robots.length > 0 ? `: robot ${robots.join(', ')}` : ''}`;
+  }
+
+  // The tick before or after at which something is wrong.
+  stepToConflict(direction) {
+    const { frame } = this.replay.state;
+    const frames = this.conflicts.map((conflict) => conflict.frame).filter((one) => (one - frame) * direction > 0);
+    if (frames.length > 0) this.player.jump(direction > 0 ? frames[0] : frames[frames.length - 1]);
+  }
+}
+
+function showFigures(list, figures) {
+  list.replaceChildren(...figures.map(([name, value]) => {
+    const part = document.createElement('div');
+    const [term, told] = [document.createElement('dt'), document.createElement('dd')];
+    term.textContent = name;
+    told.textContent = String(value);
+    part.append(term, told);
+    return part;
+  }));
+}
+
+// ---- keys and controls of the page of runs
+
+function runKeysOf(page) {
+  const toggle = (name) => () => page.show(name, !page.views[0].shows[name]);
+  return {
+    ' ': () => page.player.toggle(),
+    ArrowRight: (far) => page.player.step(far),
+    ArrowLeft: (far) => page.player.step(-far),
+    Home: () => page.player.jump(0),
+    End: () => page.player.jump(page.replay.last),
+    n: () => page.stepToConflict(1),
+    b: () => page.stepToConflict(-1),
+    '<': () => page.player.changeSpeed(-1),
+    '>': () => page.player.changeSpeed(1),
+    '+': () => page.zoomBy(ZOOM),
+    '=': () => page.zoomBy(ZOOM),
+    '-': () => page.zoomBy(1 / ZOOM),
+    0: () => page.showAll(),
+    w: () => page.pan(0, -PAN),
+    s: () => page.pan(0, PAN),
+    a: () => page.pan(-PAN, 0),
+    d: () => page.pan(PAN, 0),
+    '[': () => page.pickNext(-1),
+    ']': () => page.pickNext(1),
+    Escape: () => page.pick(null),
+    g: toggle('goals'),
+    l: toggle('lines'),
+  };
+}
+
+function listenToRunControls(page) {
+  const clicks = {
+    play: () => page.player.toggle(),
+    back: () => page.player.step(-1),
+    on: () => page.player.step(1),
+    slower: () => page.player.changeSpeed(-1),
+    faster: () => page.player.changeSpeed(1),
+    'zoom-in': () => page.zoomBy(ZOOM),
+    'zoom-out': () => page.zoomBy(1 / ZOOM),
+    'zoom-fit': () => page.showAll(),
+    unpick: () => page.pick(null),
+  };
+  for (const [name, click] of Object.entries(clicks)) element(name).addEventListener('click', click);
+  element('slider').addEventListener('input', (event) => page.player.jump(Number(event.target.value)));
+  for (const name of ['goals', 'lines']) {
+    element(`show-${name}`).addEventListener('change', (event) => page.show(name, event.target.checked));
+  }
+  element('events').addEventListener('click', (event) => {
+    const button = event.target.closest('button');
+    if (button !== null) page.player.jump(Number(button.dataset.frame));
+  });
+}
+
+function listenToRuns(page) {
+  listenToKeys(runKeysOf(page));
+  listenToRunControls(page);
+  returnFocus();
+  window.addEventListener('resize', () => page.repaint());
+  document.addEventListener('visibilitychange', () => { page.player.then = performance.now(); });
+  matchMedia('(prefers-color-scheme: dark)').addEventListener('change', () => page.repaint());
+}
+
 // ---- the beginning
 
-function start() {
-  const textOf = (name) => element(name).textContent;
-  const map = mapOf(linesOf(textOf('map-rows')));
-  const replay = new Replay(map, tracesOf(textOf('traces')), verdictsOf(linesOf(textOf('verdicts'))));
-  const shown = new Page(map, replay);
+// The page of runs takes the place of the page of chapters.
+function startRuns(map, texts) {
+  const runs = texts.map((text) => runOf(map, text));
+  document.body.replaceChildren(element('runs-page').content);
+  const shown = new RunsPage(map, runs);
+  listenToRuns(shown);
+  return shown;
+}
+
+function startChapters(map, traces) {
+  const verdicts = verdictsOf(linesOf(element('verdicts').textContent));
+  const shown = new Page(map, new Replay(map, tracesOf(traces), verdicts));
   listen(shown);
-  document.body.dataset.loaded = Math.round(performance.now());
   shown.searchBound();
+  return shown;
+}
+
+function start() {
+  const map = mapOf(linesOf(element('map-rows').textContent));
+  // the element's text begins after the line end that follows its tag
+  const text = element('traces').textContent.slice(1);
+  const runs = runTextsOf(text);
+  const shown = runs.length > 0 ? startRuns(map, runs) : startChapters(map, text);
+  document.body.dataset.loaded = Math.round(performance.now());
   return shown;
 }
 

@@ -1,0 +1,173 @@
+//! The page of two runs.
+
+ghost use Rattle.std.specs.Prelude.{◌≡◌, ◌≤◌, ◌++◌, Ok, true, ℕ, List, length, codes, map, IfOk, IfErr, string_bytes};
+ghost use Rattle.fleet_map.specs.Form.{HasSides};
+ghost use Rattle.fleet_map.specs.Grammar.{view, map_of};
+ghost use Rattle.fleet_grid.specs.Floor.{floor_of_map};
+ghost use Rattle.fleet_trace.specs.Trace.{trace_of};
+ghost use Rattle.fleet_trace.specs.Text.{trace_text};
+ghost use Rattle.fleet_view.specs.Pair.{IsShownPlan, IsNoPlan, trace_run, IsJudgedRun, IsNoTraceOn, IsShownTrace, IsNoTrace, IsRun, IsNoRun, IsPairOn, IsUnpairedOn, IsPairPage, IsUnpaired};
+ghost use Rattle.fleet_view.specs.Verdicts.{verdict_text};
+
+use crate::cells::is_chapter_on;
+use crate::page::verdict_text;
+use crate::runs::{is_judged, runs_page, studied_run};
+use crate::verdict::{ChapterVerdict, grid_of, judge_chapter};
+use fleet_grid::Grid;
+use fleet_history::Chapter;
+use fleet_map::{MapFault, MapText, read_map};
+use fleet_plans::{MOST_PLAN_BYTES, PlanAnswer, is_plan, study_texts};
+use fleet_trace::{TraceFault, read_trace, write_trace};
+use std::alloc::{AllocError, Global};
+
+/// Why two runs cannot be shown.
+#[derive(Clone, Copy, Debug, PartialEq, Eq)]
+pub enum RunFault {
+    /// The bytes are not a map.
+    Map(MapFault),
+    /// A plan cannot be read, or is not as its head says. This is what `check_texts` answers.
+    Plan(PlanAnswer),
+    /// The bytes of a trace are not a trace.
+    Trace(TraceFault),
+    /// The run with this number, 1 or 2, is a trace that has a cell which the map does not have.
+    OffMap(u64),
+    NoMemory,
+}
+
+impl From<AllocError> for RunFault {
+    ghost use Rattle.std.specs.Prelude.{◌≡◌};
+    ghost use Rattle.fleet_view.specs.declared.pair.RunFault.TheVariants.{NoMemory};
+
+    ghost from_gives = { λ _ e. e ≡ NoMemory };
+
+    fn from(_error: AllocError) -> RunFault {
+        RunFault::NoMemory
+    }
+}
+
+/// The text of a plan.
+fn plan_on(alloc: Global, floor: &MapText, bytes: &[u8], text: &[u8]) -> Result<Vec<u8>, RunFault>
+    requires read { map_of bytes.now ≡ Ok (view floor.now) }
+    requires short { length text.now ≤ MOST_PLAN_BYTES }
+    ensures run { IfOk result (λ run. IsShownPlan bytes.now (view floor.now) text.now run.items) }
+    ensures fault { IfErr result (λ fault. IsNoPlan (view floor.now) text.now fault) }
+{
+    let study = study_texts(alloc, bytes, text)?;
+    if !is_judged(study.answer) {
+        return Err(RunFault::Plan(study.answer));
+    }
+    Ok(studied_run(alloc, floor.width, bytes, text, &study)?)
+}
+
+/// The text of a chapter, with this verdict.
+fn trace_run(
+    alloc: Global,
+    verdict: ChapterVerdict,
+    chapter: &Chapter,
+) -> Result<Vec<u8>, AllocError>
+    ensures { IfOk result (λ run. run.items ≡ trace_run verdict (trace_of chapter.now)) }
+{
+    let named = verdict_text(alloc, verdict)?;
+    let text = write_trace(alloc, chapter)?;
+    let mut out = Vec::from_slice(alloc, b"trace ")?;
+    out.extend_from_slice(named.as_bytes())?;
+    out.extend_from_slice(text.as_bytes())?;
+    out.push(b'\n')?;
+    Ok(out)
+}
+
+/// The text of a chapter that has this number.
+fn chapter_on(
+    alloc: Global,
+    floor: &MapText,
+    grid: &Grid,
+    chapter: &Chapter,
+    number: u64,
+) -> Result<Vec<u8>, RunFault>
+    requires { grid.now ≡ floor_of_map (view floor.now) }
+    ensures run { IfOk result (λ run. IsJudgedRun (view floor.now) (trace_of chapter.now) run.items) }
+    ensures fault { IfErr result (λ fault. IsNoTraceOn (view floor.now) number (trace_of chapter.now) fault) }
+{
+    if !is_chapter_on(floor.cells.len(), chapter) {
+        return Err(RunFault::OffMap(number));
+    }
+    let verdict = judge_chapter(alloc, grid, chapter)?;
+    Ok(trace_run(alloc, verdict, chapter)?)
+}
+
+/// The text of a trace that has this number.
+fn trace_on(
+    alloc: Global,
+    floor: &MapText,
+    grid: &Grid,
+    text: &[u8],
+    number: u64,
+) -> Result<Vec<u8>, RunFault>
+    requires { grid.now ≡ floor_of_map (view floor.now) }
+    ensures run { IfOk result (λ run. IsShownTrace (view floor.now) text.now run.items) }
+    ensures fault { IfErr result (λ fault. IsNoTrace (view floor.now) number text.now fault) }
+{
+    match read_trace(alloc, text) {
+        Ok(chapter) => chapter_on(alloc, floor, grid, &chapter, number),
+        Err(fault) => Err(RunFault::Trace(fault)),
+    }
+}
+
+/// The text of a run that has this number.
+fn run_on(
+    alloc: Global,
+    floor: &MapText,
+    grid: &Grid,
+    bytes: &[u8],
+    text: &[u8],
+    number: u64,
+) -> Result<Vec<u8>, RunFault>
+    requires grid { grid.now ≡ floor_of_map (view floor.now) }
+    requires read { map_of bytes.now ≡ Ok (view floor.now) }
+    requires short { length text.now ≤ MOST_PLAN_BYTES }
+    ensures run { IfOk result (λ run. IsRun bytes.now (view floor.now) text.now run.items) }
+    ensures fault { IfErr result (λ fault. IsNoRun (view floor.now) number text.now fault) }
+{
+    if is_plan(text) {
+        plan_on(alloc, floor, bytes, text)
+    } else {
+        trace_on(alloc, floor, grid, text, number)
+    }
+}
+
+/// The page of two runs on a map that was read.
+fn pair_on(
+    alloc: Global,
+    floor: &MapText,
+    bytes: &[u8],
+    one: &[u8],
+    other: &[u8],
+) -> Result<Vec<u8>, RunFault>
+    requires sides { HasSides (view floor.now) }
+    requires read { map_of bytes.now ≡ Ok (view floor.now) }
+    requires short_one { length one.now ≤ MOST_PLAN_BYTES }
+    requires short_other { length other.now ≤ MOST_PLAN_BYTES }
+    ensures page { IfOk result (λ page. IsPairOn bytes.now (view floor.now) one.now other.now page.items) }
+    ensures fault { IfErr result (λ fault. IsUnpairedOn bytes.now (view floor.now) one.now other.now fault) }
+{
+    let grid = grid_of(alloc, floor)?;
+    let mut runs = run_on(alloc, floor, &grid, bytes, one, 1)?;
+    let second = run_on(alloc, floor, &grid, bytes, other, 2)?;
+    runs.extend_from_slice(&second)?;
+    Ok(runs_page(alloc, floor, &runs)?)
+}
+
+/// The page of two runs, each of which is a plan or a trace, next to each other. A plan may have conflicts, of which the
+/// page lists the first 20,000; a trace has the judge's verdict. The map is read first, then one run, then the other.
+pub fn pair_page(alloc: Global, bytes: &[u8], one: &[u8], other: &[u8]) -> Result<Vec<u8>, RunFault>
+    requires one { length one.now ≤ MOST_PLAN_BYTES }
+    requires other { length other.now ≤ MOST_PLAN_BYTES }
+    ensures page { IfOk result (λ page. IsPairPage bytes.now one.now other.now page.items) }
+    ensures fault { IfErr result (λ fault. IsUnpaired bytes.now one.now other.now fault) }
+{
+    match read_map(alloc, bytes) {
+        Ok(floor) => pair_on(alloc, &floor, bytes, one, other),
+        Err(MapFault::NoMemory) => Err(RunFault::NoMemory),
+        Err(fault) => Err(RunFault::Map(fault)),
+    }
+}
