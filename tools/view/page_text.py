@@ -6,7 +6,7 @@ HERE = pathlib.Path(__file__).resolve().parent
 # in this order: a part may use what is defined before it as soon as it is read
 PARTS = [
     'read', 'graph', 'roomy', 'fault', 'changes', 'replay', 'turns', 'bound', 'colours', 'place', 'floor', 'heat', 'ground', 'arrows', 'draw', 'charts',
-    'events', 'list', 'marks', 'time', 'address', 'state', 'input', 'placed', 'runs', 'stamps', 'runs_view', 'runs_page', 'runs_input', 'start',
+    'events', 'list', 'marks', 'time', 'address', 'state', 'input', 'placed', 'logs', 'runs', 'stamps', 'runs_view', 'runs_page', 'runs_input', 'start',
 ]
 
 

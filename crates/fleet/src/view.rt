@@ -3,7 +3,8 @@
 use crate::ends::{FileFault, MOST_MAP_BYTES, complain, file_bytes};
 use crate::inputs::{Inputs, PlanUse, only_trace, traces_in};
 use fleet_lib::{
-    MOST_TRACE_BYTES, Said, Shown, View, answer_many, answer_two, answer_view, is_plan, tell,
+    MOST_TRACE_BYTES, Said, Shown, View, answer_log, answer_many, answer_two, answer_view, is_log,
+    is_plan, tell,
 };
 use std::alloc::{Alloc, Global};
 use std::fs::Files;
@@ -22,7 +23,8 @@ fn answer_inputs<'a, R: Alloc<A = Global>>(
     }
 }
 
-/// The answer to one file whose page is asked for: that of a plan with many robots, else that of a trace.
+/// The answer to one file whose page is asked for: that of a plan with many robots, of a log, else of a
+/// trace.
 fn answer_one<'a, R: Files + Alloc<A = Global>>(
     rt: &R,
     map: &[u8],
@@ -33,6 +35,9 @@ fn answer_one<'a, R: Files + Alloc<A = Global>>(
         if let Some(said) = answer_many(rt.alloc(), map, &input)? {
             return Ok(said);
         }
+    }
+    if is_log(&input) {
+        return Ok(answer_log(rt.alloc(), map, &input)?);
     }
     let inputs = only_trace(rt.alloc(), map, input, PlanUse::Shown)?;
     answer_inputs(rt, Shown::Page, map, inputs)

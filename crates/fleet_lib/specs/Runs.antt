@@ -7,7 +7,10 @@ use Rattle.fleet_view.specs.declared.fault.ViewFault.{ViewFault}
 use Rattle.fleet_view.specs.declared.fault.ViewFault.TheVariants as fault
 use Rattle.fleet_view.specs.declared.pair.RunFault.{RunFault}
 use Rattle.fleet_view.specs.declared.pair.RunFault.TheVariants as run_fault
+use Rattle.fleet_map.specs.declared.fault.MapFault.{MapFault}
+use Rattle.fleet_map.specs.declared.fault.MapFault.TheVariants as map_fault
 use Rattle.fleet_view.specs.View.{IsPage, IsUnshown}
+use Rattle.fleet_view.specs.Logs.{is_log, IsLogPage, IsNoLogPage}
 use Rattle.fleet_view.specs.Runs.{IsManyShown}
 use Rattle.fleet_view.specs.Pair.{IsPairPage, IsUnpaired}
 use Rattle.fleet_lib.specs.declared.said.Said.{Said}
@@ -26,6 +29,16 @@ IsSaidOf None (Some said) = ⊥
 -- what is said of a plan with more than 512 robots, and of that alone
 abbrev pub IsManySaid : List ℕ → List ℕ → Option Said → Type 0
 IsManySaid map plan said = (page : Option (Vec ℕ Global)) × IsManyShown map plan page × IsSaidOf page said
+
+-- the map is at fault, or memory ran out
+abbrev pub map_refused : MapFault → Outcome
+map_refused map_fault.NoMemory = faulty fault.NoMemory
+map_refused f = faulty (fault.Map f)
+
+-- what is said to a log of an execution
+pub data IsLogSaid (map log : List ℕ) (o : Outcome) : Type 0 where
+  logged : (page : List ℕ) → IsLogPage map log page → o ≡ good page 0 → IsLogSaid map log o
+  no_map : (f : MapFault) → IsNoLogPage map f → o ≡ map_refused f → IsLogSaid map log o
 
 -- as of a trace, and of a plan, alone
 abbrev pub pair_refused : RunFault → Outcome
@@ -55,6 +68,10 @@ abbrev pub IsTwoIf : Bool → List ℕ → List ℕ → List ℕ → Outcome →
 IsTwoIf true map one other o = IsPairSaid map one other o
 IsTwoIf false map one other o = IsTracesSaid map one other o
 
--- what is said to two texts: two runs, where one of them is a plan
+-- a plan or a log
+abbrev pub is_run : List ℕ → Bool
+is_run text = is_plan text || is_log text
+
+-- what is said to two texts: two runs, where one of them is no trace
 abbrev pub IsTwoSaid : List ℕ → List ℕ → List ℕ → Outcome → Type 0
-IsTwoSaid map one other o = IsTwoIf (is_plan one || is_plan other) map one other o
+IsTwoSaid map one other o = IsTwoIf (is_run one || is_run other) map one other o

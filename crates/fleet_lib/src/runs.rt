@@ -3,14 +3,15 @@
 ghost use Rattle.std.specs.Prelude.{◌≡◌, ◌≤◌, ◌∷◌, [], length, vec_len, IfOk};
 ghost use Rattle.fleet_view.specs.View.{IsUnshown};
 ghost use Rattle.fleet_lib.specs.Check.{good};
-ghost use Rattle.fleet_lib.specs.Runs.{IsManySaid, IsPairSaid, IsTracesSaid, IsTwoSaid, is_chapter, pair_refused};
+ghost use Rattle.fleet_lib.specs.Runs.{IsLogSaid, IsManySaid, IsPairSaid, IsTracesSaid, IsTwoSaid, is_chapter, is_run, map_refused, pair_refused};
 ghost use Rattle.fleet_lib.specs.Said.{said_of};
 
 use crate::plan_trace::plan_refused;
 use crate::said::Said;
 use crate::view::faulty;
+use fleet_map::MapFault;
 use fleet_plans::{MOST_PLAN_BYTES, is_plan};
-use fleet_view::{RunFault, ViewFault, many_page, pair_page, view_page};
+use fleet_view::{RunFault, ViewFault, is_log, log_page, many_page, pair_page, view_page};
 use std::alloc::{AllocError, Global};
 
 /// The answer with a page.
@@ -33,6 +34,26 @@ pub fn answer_many(alloc: Global, map: &[u8], plan: &[u8]) -> Result<Option<Said
     match many_page(alloc, map, plan)? {
         Some(page) => Ok(Some(shown(alloc, page))),
         None => Ok(None),
+    }
+}
+
+/// The answer where a map cannot be read.
+fn map_refused(alloc: Global, fault: MapFault) -> Result<Said, AllocError>
+    ensures { IfOk result (λ s. said_of s ≡ map_refused fault) }
+{
+    match fault {
+        MapFault::NoMemory => faulty(alloc, ViewFault::NoMemory),
+        fault => faulty(alloc, ViewFault::Map(fault)),
+    }
+}
+
+/// The answer to a map and a log of an execution: its page.
+pub fn answer_log(alloc: Global, map: &[u8], log: &[u8]) -> Result<Said, AllocError>
+    ensures { IfOk result (λ s. IsLogSaid map.now log.now (said_of s)) }
+{
+    match log_page(alloc, map, log) {
+        Ok(page) => Ok(shown(alloc, page)),
+        Err(fault) => map_refused(alloc, fault),
     }
 }
 
@@ -80,8 +101,15 @@ fn answer_traces(
     }
 }
 
+/// Whether a text is a plan or a log, and so no trace.
+fn is_run(text: &[u8]) -> bool
+    ensures { result ≡ is_run text.now }
+{
+    is_plan(text) || is_log(text)
+}
+
 /// The answer to a map and two texts that are to be shown on one page. Two traces of which the second continues the first are
-/// chapters; else the two are runs next to each other, each a plan, valid or not, or a trace.
+/// chapters; else the two are runs next to each other, each a plan, valid or not, a log of an execution or a trace.
 pub fn answer_two(
     alloc: Global,
     map: &[u8],
@@ -92,7 +120,7 @@ pub fn answer_two(
     requires other { vec_len other ≤ MOST_PLAN_BYTES }
     ensures { IfOk result (λ s. IsTwoSaid map.now one.items other.items (said_of s)) }
 {
-    if is_plan(&one) || is_plan(&other) {
+    if is_run(&one) || is_run(&other) {
         return answer_pair(alloc, map, &one, &other);
     }
     answer_traces(alloc, map, one, other)

@@ -6,4 +6,5 @@ pub mod View
 pub mod Closed
 pub mod Placed
 pub mod Runs
+pub mod Logs
 pub mod Pair

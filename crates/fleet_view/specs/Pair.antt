@@ -1,4 +1,4 @@
--- The page of two runs: each is a plan or a trace.
+-- The page of two runs: each is a plan, a log or a trace.
 use Rattle.std.specs.Prelude.{⊤, ◌≡◌, ◌⊎◌, ℕ, Bool, true, false, List, ◌++◌, length, Ok, Err, codes}
 use Rattle.std.specs.declared.alloc.Global.{Global}
 use Rattle.fleet_map.specs.Grammar.{Map, map_of}
@@ -14,6 +14,7 @@ use Rattle.fleet_view.specs.declared.pair.RunFault.{RunFault}
 use Rattle.fleet_view.specs.declared.pair.RunFault.TheVariants as fault
 use Rattle.fleet_view.specs.declared.verdict.ChapterVerdict.{ChapterVerdict}
 use Rattle.fleet_view.specs.Cells.{is_trace_on}
+use Rattle.fleet_view.specs.Logs.{is_log, log_run}
 use Rattle.fleet_view.specs.Runs.{is_judged, IsPlanRun, runs_page}
 use Rattle.fleet_view.specs.Verdicts.{IsVerdictOn, verdict_text}
 
@@ -66,17 +67,27 @@ IsNoTrace m number text (fault.Trace f) = IsTraceFault text f
 IsNoTrace m number text (fault.OffMap named) = (t : Trace Global) × Tells text t × IsNoTraceOn m number t (fault.OffMap named)
 IsNoTrace m number text fault.NoMemory = ⊤
 
--- ---- both
+-- ---- one of them
+
+-- a log is shown as it is
+abbrev pub IsOtherIf : Bool → Map → List ℕ → List ℕ → Type 0
+IsOtherIf true m text run = run ≡ log_run text
+IsOtherIf false m text run = IsShownTrace m text run
 
 abbrev pub IsRunIf : Bool → List ℕ → Map → List ℕ → List ℕ → Type 0
 IsRunIf true bytes m text run = IsShownPlan bytes m text run
-IsRunIf false bytes m text run = IsShownTrace m text run
+IsRunIf false bytes m text run = IsOtherIf (is_log text) m text run
+
+-- a log is refused where memory ran out alone
+abbrev pub IsNoOtherIf : Bool → Map → ℕ → List ℕ → RunFault → Type 0
+IsNoOtherIf true m number text f = f ≡ fault.NoMemory
+IsNoOtherIf false m number text f = IsNoTrace m number text f
 
 abbrev pub IsNoRunIf : Bool → Map → ℕ → List ℕ → RunFault → Type 0
 IsNoRunIf true m number text f = IsNoPlan m text f
-IsNoRunIf false m number text f = IsNoTrace m number text f
+IsNoRunIf false m number text f = IsNoOtherIf (is_log text) m number text f
 
--- the text of a plan or of a trace
+-- the text of a plan, of a log or of a trace
 abbrev pub IsRun : List ℕ → Map → List ℕ → List ℕ → Type 0
 IsRun bytes m text run = IsRunIf (is_plan text) bytes m text run
 

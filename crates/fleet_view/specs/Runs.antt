@@ -18,6 +18,7 @@ use Rattle.fleet_conflicts.specs.declared.conflicts.Conflict.{Conflict}
 use Rattle.fleet_conflicts.specs.Conflicts.{AreConflictsOf}
 use Rattle.fleet_view.specs.declared.frame.TheConstants.{HEAD, VERDICTS, TRACES}
 use Rattle.fleet_view.specs.declared.script.TheConstants.{TAIL}
+use Rattle.fleet_view.specs.declared.ending.TheConstants.{END}
 use Rattle.fleet_view.specs.Page.{map_text}
 use Rattle.fleet_view.specs.Placed.{places_text}
 
@@ -40,7 +41,7 @@ plan_run width places cs = plan_head (length places) (length cs) ++ places_text 
 
 -- the page of a map and of runs on it
 abbrev pub runs_page : Map → List ℕ → List ℕ
-runs_page m runs = HEAD.now ++ map_text m ++ VERDICTS.now ++ TRACES.now ++ runs ++ TAIL.now
+runs_page m runs = HEAD.now ++ map_text m ++ VERDICTS.now ++ TRACES.now ++ runs ++ TAIL.now ++ END.now
 
 -- ---- plans
 

@@ -294,7 +294,7 @@ tr.picked > * { background: color-mix(in srgb, var(--accent) 30%, transparent); 
 </div>
 <p id="hover" class="soft"></p>
 <p class="robot"><span id="picked"></span> <button type="button" id="unpick" hidden>all robots</button></p>
-<p id="keys" class="soft">Space plays, arrow keys go a tick back or on, B and N to the conflict before or after, + and &minus; zoom, W A S D move the map, [ and ] pick a robot, G and L draw goals and lines. A click on a robot picks it. Grey: has no errand, or stays where it is until the end.</p>
+<p id="keys" class="soft">Space plays, arrow keys go a tick back or on, B and N to the conflict before or after, + and &minus; zoom, W A S D move the map, [ and ] pick a robot, G and L draw goals and lines. A click on a robot picks it. Grey: has no errand, or stays where it is until the end. A dashed line: waits for the robot at its end.</p>
 </section>
 <section id="conflicts-card" class="card" hidden><h2>Conflicts <span id="conflicts-count" class="told"></span></h2><ol id="events" class="scroll tall" tabindex="0" aria-label="Conflicts"></ol></section>
 </main>

@@ -4,9 +4,11 @@
 mod arrivals;
 mod cells;
 mod chapters;
+mod ending;
 mod fault;
 mod frame;
 mod law;
+mod logs;
 mod many;
 mod page;
 mod pair;
@@ -21,6 +23,7 @@ mod walls;
 
 pub use fault::ViewFault;
 pub use law::input_ends_no_element;
+pub use logs::{is_log, log_page};
 pub use many::many_page;
 pub use page::page_of;
 pub use pair::{RunFault, pair_page};

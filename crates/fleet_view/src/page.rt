@@ -8,6 +8,7 @@ ghost use Rattle.fleet_view.specs.declared.verdict.ChapterVerdict.TheVariants.{I
 ghost use Rattle.fleet_view.specs.Page.{rows_text, chapters_text, page_text};
 ghost use Rattle.fleet_view.specs.Verdicts.{verdict_text, verdicts_text};
 
+use crate::ending::END;
 use crate::frame::{HEAD, TRACES, VERDICTS};
 use crate::script::TAIL;
 use crate::verdict::ChapterVerdict;
@@ -98,5 +99,6 @@ pub fn page_of(
     out.extend_from_slice(TRACES.as_bytes())?;
     write_chapters(alloc, &mut out, chapters)?;
     out.extend_from_slice(TAIL.as_bytes())?;
+    out.extend_from_slice(END.as_bytes())?;
     Ok(out)
 }

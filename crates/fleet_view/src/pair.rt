@@ -6,10 +6,12 @@ ghost use Rattle.fleet_map.specs.Grammar.{view, map_of};
 ghost use Rattle.fleet_grid.specs.Floor.{floor_of_map};
 ghost use Rattle.fleet_trace.specs.Trace.{trace_of};
 ghost use Rattle.fleet_trace.specs.Text.{trace_text};
-ghost use Rattle.fleet_view.specs.Pair.{IsShownPlan, IsNoPlan, trace_run, IsJudgedRun, IsNoTraceOn, IsShownTrace, IsNoTrace, IsRun, IsNoRun, IsPairOn, IsUnpairedOn, IsPairPage, IsUnpaired};
+ghost use Rattle.fleet_view.specs.Pair.{IsShownPlan, IsNoPlan, trace_run, IsJudgedRun, IsNoTraceOn, IsShownTrace, IsNoTrace, IsOtherIf, IsNoOtherIf, IsRun, IsNoRun, IsPairOn, IsUnpairedOn, IsPairPage, IsUnpaired};
+ghost use Rattle.fleet_view.specs.Logs.{is_log};
 ghost use Rattle.fleet_view.specs.Verdicts.{verdict_text};
 
 use crate::cells::is_chapter_on;
+use crate::logs::{is_log, log_run};
 use crate::page::verdict_text;
 use crate::runs::{is_judged, runs_page, studied_run};
 use crate::verdict::{ChapterVerdict, grid_of, judge_chapter};
@@ -113,6 +115,25 @@ fn trace_on(
     }
 }
 
+/// The text of a log, or of a trace that has this number.
+fn other_on(
+    alloc: Global,
+    floor: &MapText,
+    grid: &Grid,
+    text: &[u8],
+    number: u64,
+) -> Result<Vec<u8>, RunFault>
+    requires { grid.now ≡ floor_of_map (view floor.now) }
+    ensures run { IfOk result (λ run. IsOtherIf (is_log text.now) (view floor.now) text.now run.items) }
+    ensures fault { IfErr result (λ fault. IsNoOtherIf (is_log text.now) (view floor.now) number text.now fault) }
+{
+    if is_log(text) {
+        Ok(log_run(alloc, text)?)
+    } else {
+        trace_on(alloc, floor, grid, text, number)
+    }
+}
+
 /// The text of a run that has this number.
 fn run_on(
     alloc: Global,
@@ -131,7 +152,7 @@ fn run_on(
     if is_plan(text) {
         plan_on(alloc, floor, bytes, text)
     } else {
-        trace_on(alloc, floor, grid, text, number)
+        other_on(alloc, floor, grid, text, number)
     }
 }
 
@@ -157,8 +178,8 @@ fn pair_on(
     Ok(runs_page(alloc, floor, &runs)?)
 }
 
-/// The page of two runs, each of which is a plan or a trace, next to each other. A plan may have conflicts, of which the
-/// page lists the first 20,000; a trace has the judge's verdict. The map is read first, then one run, then the other.
+/// The page of two runs, each of which is a plan, a log of an execution or a trace, next to each other. A plan may have
+/// conflicts, of which the page lists the first 20,000; a trace has the judge's verdict. The map is read first, then one run, then the other.
 pub fn pair_page(alloc: Global, bytes: &[u8], one: &[u8], other: &[u8]) -> Result<Vec<u8>, RunFault>
     requires one { length one.now ≤ MOST_PLAN_BYTES }
     requires other { length other.now ≤ MOST_PLAN_BYTES }

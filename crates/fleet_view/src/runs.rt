@@ -5,6 +5,7 @@ ghost use Rattle.fleet_map.specs.Form.{HasSides};
 ghost use Rattle.fleet_map.specs.Grammar.{view};
 ghost use Rattle.fleet_view.specs.Runs.{conflict_text, conflicts_text, plan_head, plan_run, runs_page, is_judged, AreConflictsBy, IsPlanRun};
 
+use crate::ending::END;
 use crate::frame::{HEAD, TRACES, VERDICTS};
 use crate::page::write_rows;
 use crate::placed::write_places;
@@ -87,6 +88,7 @@ pub(crate) fn runs_page(alloc: Global, floor: &MapText, runs: &[u8]) -> Result<V
     out.extend_from_slice(TRACES.as_bytes())?;
     out.extend_from_slice(runs)?;
     out.extend_from_slice(TAIL.as_bytes())?;
+    out.extend_from_slice(END.as_bytes())?;
     Ok(out)
 }
 

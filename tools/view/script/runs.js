@@ -141,19 +141,21 @@ class TraceRun {
   }
 }
 
-// The texts of the runs that a page carries; none if it carries chapters. Each begins with a line `plan ..` or `trace ..`.
+// The texts of the runs that a page carries; none if it carries chapters. Each begins with a line `plan ..`, `trace ..` or `log ..`.
 function runTextsOf(text) {
   const starts = [];
-  for (let at = 0; /^(plan|trace) /.test(text.slice(at, at + 6)) && starts.length < 2;) {
+  for (let at = 0; /^(plan|trace|log) /.test(text.slice(at, at + 6)) && starts.length < 2;) {
     starts.push(at);
     at = endOfRun(text, at);
   }
   return starts.map((start, place) => text.slice(start, starts[place + 1] ?? text.length));
 }
 
-// A run ends after as many lines as its head says.
+// A run ends after as many lines as its head says, a log after as many bytes.
 function endOfRun(text, from) {
-  const head = text.slice(from, text.indexOf('\n', from)).split(' ');
+  const first = text.indexOf('\n', from);
+  const head = text.slice(from, first).split(' ');
+  if (head[0] === 'log') return first + 1 + Number(head[1]);
   let lines = head[0] === 'plan' ? 1 + Number(head[1]) + Math.min(Number(head[2]), MOST_CONFLICTS) : 2;
   let at = from;
   for (; lines > 0 && at >= 0; lines -= 1) at = text.indexOf('\n', at) + 1 || text.length;
@@ -161,7 +163,16 @@ function endOfRun(text, from) {
 }
 
 function runOf(map, text) {
-  return text.startsWith('plan ') ? new PlanRun(map, text) : new TraceRun(map, text);
+  if (text.startsWith('plan ')) return new PlanRun(map, text);
+  return text.startsWith('log ') ? new LogRun(map, text) : new TraceRun(map, text);
+}
+
+// The runs of these texts; a log gets the robots that never move from the plan next to it.
+function runsOf(map, texts) {
+  const runs = texts.map((text) => runOf(map, text));
+  const plan = runs.find((run) => run.kind === 'plan');
+  for (const run of runs) if (run.kind === 'log' && plan !== undefined) run.beginOn(plan.placementAt(0));
+  return runs;
 }
 
 // The runs under one clock: each stands at its end when it is over.

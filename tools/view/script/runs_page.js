@@ -37,8 +37,9 @@ class RunsPage {
     this.player.setSpeed(8);
     this.setShown('goals', this.replay.robots <= 100);
     this.setShown('lines', false);
-    this.repaint();
     const asked = /(?:^#|&)t=(\d+)/.exec(location.hash);
+    for (const { view, figures } of this.parts) showFigures(figures, view.run.figures());
+    this.repaint();
     this.player.jump(asked === null ? 0 : Number(asked[1]));
   }
 

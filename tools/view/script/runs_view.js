@@ -32,27 +32,51 @@ class RunView extends MapFloor {
   room() {
     const { innerHeight } = window;
     if (matchMedia('(max-width: 900px)').matches) return Math.max(LEAST_RUN_HIGH, innerHeight * 0.6);
-    const below = this.canvas.parentElement.querySelector('dl').offsetHeight + element('time').offsetHeight + 2 * BELOW;
+    const figures = Array.from(document.querySelectorAll('.sides dl'), (list) => list.offsetHeight);
+    const below = Math.max(...figures) + element('time').offsetHeight + 2 * BELOW;
     return Math.max(LEAST_HIGH, innerHeight - this.above() - below);
   }
 
   // Where the robots are drawn. One that is nowhere, or off the map, is not drawn.
   placeRobots(fraction) {
-    const { run, map, view, xs, ys } = this;
+    const { run } = this;
+    const part = Math.max(0, fraction);
+    if (run.kind === 'log') {
+      const time = run.timeOf(run.frame + part);
+      for (let robot = 0; robot < run.robots; robot += 1) this.put(robot, ...run.wayOf(robot, time));
+    } else {
+      for (let robot = 0; robot < run.robots; robot += 1) this.put(robot, run.cells[robot], run.next[robot], part);
+    }
+  }
+
+  // Puts a robot between two cells.
+  put(robot, cell, next, part) {
+    const { map, view, xs, ys } = this;
     const { width } = map;
     const cells = map.floor.length;
-    const part = Math.max(0, fraction);
-    for (let robot = 0; robot < run.robots; robot += 1) {
-      const cell = run.cells[robot];
-      if (cell < 0 || cell >= cells) {
-        xs[robot] = NaN;
-        continue;
-      }
-      const other = run.next[robot] >= 0 && run.next[robot] < cells ? run.next[robot] : cell;
-      const [column, row] = [cell % width, Math.floor(cell / width)];
-      xs[robot] = view.left + (column + (other % width - column) * part + 0.5) * view.scale;
-      ys[robot] = view.top + (row + (Math.floor(other / width) - row) * part + 0.5) * view.scale;
+    if (cell < 0 || cell >= cells) {
+      xs[robot] = NaN;
+      return;
     }
+    const other = next >= 0 && next < cells ? next : cell;
+    const [column, row] = [cell % width, Math.floor(cell / width)];
+    xs[robot] = view.left + (column + (other % width - column) * part + 0.5) * view.scale;
+    ys[robot] = view.top + (row + (Math.floor(other / width) - row) * part + 0.5) * view.scale;
+  }
+
+  // From each robot that stands ready a line to the one that holds it up.
+  drawHolds() {
+    const { pen, view, run, xs, ys } = this;
+    pen.strokeStyle = this.colours.mark;
+    pen.lineWidth = Math.max(1.5 * this.ratio, Math.min(view.scale / 8, 5 * this.ratio));
+    pen.setLineDash([pen.lineWidth, pen.lineWidth]);
+    pen.beginPath();
+    for (const [robot, holder] of run.holds) {
+      pen.moveTo(xs[robot], ys[robot]);
+      pen.lineTo(xs[holder], ys[holder]);
+    }
+    pen.stroke();
+    pen.setLineDash([]);
   }
 
   isOnCanvas(x, y) {
@@ -77,17 +101,19 @@ class RunView extends MapFloor {
   }
 
   draw(fraction) {
-    this.placeRobots(this.run.frame === this.run.last ? 0 : fraction);
+    const { run } = this;
+    this.placeRobots(run.frame === run.last ? 0 : fraction);
     const many = this.countOnCanvas() > MOST_DISCS;
     const numbered = !many && this.view.scale >= LEAST_NUMBERED * this.ratio;
     if (many) this.stamps.draw();
     else this.drawGround(numbered);
-    if (this.picked !== null && this.picked < this.run.robots) this.drawPath(this.picked);
+    if (this.picked !== null && this.picked < run.robots) this.drawPath(this.picked);
     if (this.shows.lines) this.drawLines();
     if (this.shows.goals) this.drawGoals();
     if (!many) this.drawRobots();
     if (numbered) this.drawHeadings();
     if (numbered) this.drawNumbers();
+    if (run.kind === 'log') this.drawHolds();
     this.drawPicked();
     this.drawFaults();
   }

@@ -2,7 +2,7 @@
 
 // The page of runs takes the place of the page of chapters.
 function startRuns(map, texts) {
-  const runs = texts.map((text) => runOf(map, text));
+  const runs = runsOf(map, texts);
   document.body.replaceChildren(element('runs-page').content);
   const shown = new RunsPage(map, runs);
   listenToRuns(shown);

@@ -9,8 +9,8 @@ const path = require('node:path');
 const test = require('node:test');
 const vm = require('node:vm');
 
-const PARTS = ['read', 'graph', 'fault', 'changes', 'replay', 'events', 'placed', 'runs'];
-const NAMES = ['mapOf', 'placementsOf', 'timesDone', 'movesUpTo', 'countUpTo', 'conflictOf', 'PlanRun', 'TraceRun', 'Course', 'runTextsOf', 'runOf'];
+const PARTS = ['read', 'graph', 'fault', 'changes', 'replay', 'events', 'placed', 'logs', 'runs'];
+const NAMES = ['mapOf', 'placementsOf', 'timesDone', 'movesUpTo', 'countUpTo', 'conflictOf', 'PlanRun', 'TraceRun', 'Course', 'runTextsOf', 'runOf', 'runsOf', 'LogRun'];
 
 function load() {
   const texts = PARTS.map((part) => fs.readFileSync(path.join(__dirname, '..', 'script', `${part}.js`), 'utf8'));
@@ -106,4 +106,48 @@ test('a trace that breaks a rule has its conflicts', () => {
   const run = page.runOf(MAP, `trace illegal 1 4\n${JSON.stringify(trace)}\n`);
   assert.deepStrictEqual([...run.conflicts], [{ frame: 1, robots: [0, 1], text: 'robots 0 and 1 are on cell 0' }]);
   assert.strictEqual(run.title().startsWith('trace, chapter 0, illegal at entry 1: it breaks rule 4'), true);
+});
+
+// robot 0 goes from 1 over 0 to 3, robot 1 follows from 2 to 1 and 0, and robot 2 stays on 5
+const LOG = [
+  '0 move 0 1 0 1', '2 reached 0', '2 move 0 0 3 2', '2 move 1 2 1 1', '3 reached 1', '6 reached 0', '6 move 1 1 0 2', '7 reached 1', '7 done',
+].map((line) => `${line}\n`).join('');
+const logText = (log) => `log ${log.length}\n${log}`;
+
+test('a log has robots between two cells', () => {
+  const run = page.runOf(MAP, logText(LOG));
+  assert.deepStrictEqual([run.robots, run.unit, run.end, run.last], [2, 2, 7, 4]);
+  assert.deepStrictEqual(run.wayOf(0, 1), [1, 0, 0.5]);
+  assert.deepStrictEqual(run.wayOf(0, 3), [0, 3, 0.25]);
+  assert.deepStrictEqual(run.wayOf(1, 1), [2, 2, 0]);
+  assert.deepStrictEqual(run.wayOf(1, 4), [1, 1, 0]);
+});
+
+test('a log tells who holds up whom', () => {
+  const run = page.runOf(MAP, logText(LOG));
+  // robot 1 is ready at 0 for the cell that robot 0 has left at 2, and at 3 for the one that it has left at 6
+  assert.deepStrictEqual([0, 1, 2.5, 3, 5, 6].map((time) => run.holdsAt(time)), [[[1, 0]], [[1, 0]], [], [[1, 0]], [[1, 0]], []]);
+  run.seek(2);
+  const figures = new Map(run.figures());
+  assert.deepStrictEqual(['time', 'moves', 'reached', 'under way', 'held up'].map((name) => figures.get(name)), [4, 4, 2, 1, 1]);
+});
+
+test('without times each line of a log is one after the other', () => {
+  const run = page.runOf(MAP, logText('move 0 1 0 1\nmove 1 2 1 1\nreached 1\nreached 0\nnot-under-way 0\n'));
+  assert.deepStrictEqual([run.unit, run.end, run.last], [3, 4, 2]);
+  assert.deepStrictEqual(run.wayOf(0, 1.5), [1, 0, 0.5]);
+  assert.deepStrictEqual(run.conflicts.map(({ frame, robots }) => [frame, robots]), [[1, [0]]]);
+});
+
+test('a move that was not reached stays half way', () => {
+  const run = page.runOf(MAP, logText('0 move 0 1 0 1\n4 move 1 2 1 1\n'));
+  assert.deepStrictEqual(run.wayOf(0, 4), [1, 0, 0.5]);
+  assert.deepStrictEqual([run.isIdle(0), run.holdsAt(3)], [false, []]);
+});
+
+test('a plan next to a log has the robots that never move', () => {
+  const texts = page.runTextsOf(`${logText(LOG)}plan 1 0\nes!?????D\n`);
+  assert.strictEqual(texts.length, 2);
+  const [log] = page.runsOf(MAP, texts);
+  assert.deepStrictEqual([log.robots, log.wayOf(2, 3)], [3, [5, 5, 0]]);
 });
