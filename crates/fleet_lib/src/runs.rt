@@ -1,6 +1,7 @@
 //! Plans with many robots, and two runs, on a page.
 
-ghost use Rattle.std.specs.Prelude.{◌≡◌, ◌≤◌, ◌∷◌, [], length, vec_len, IfOk};
+ghost use Rattle.std.specs.Prelude.{◌≡◌, ◌≤◌, ◌∷◌, [], true, length, vec_len, IfOk};
+ghost use Rattle.fleet_view.specs.Logs.{is_log};
 ghost use Rattle.fleet_view.specs.View.{IsUnshown};
 ghost use Rattle.fleet_lib.specs.Check.{good};
 ghost use Rattle.fleet_lib.specs.Runs.{IsLogSaid, IsManySaid, IsPairSaid, IsTracesSaid, IsTwoSaid, is_chapter, is_run, map_refused, pair_refused};
@@ -49,6 +50,7 @@ fn map_refused(alloc: Global, fault: MapFault) -> Result<Said, AllocError>
 
 /// The answer to a map and a log of an execution: its page.
 pub fn answer_log(alloc: Global, map: &[u8], log: &[u8]) -> Result<Said, AllocError>
+    requires { is_log log.now ≡ true }
     ensures { IfOk result (λ s. IsLogSaid map.now log.now (said_of s)) }
 {
     match log_page(alloc, map, log) {

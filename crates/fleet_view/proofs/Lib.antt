@@ -5,3 +5,4 @@ pub mod Pieces
 pub mod Closed
 pub mod Signs
 pub mod Told
+pub mod ClosedRuns

@@ -22,7 +22,7 @@ mod view;
 mod walls;
 
 pub use fault::ViewFault;
-pub use law::input_ends_no_element;
+pub use law::{input_ends_no_element, runs_end_no_element};
 pub use logs::{is_log, log_page};
 pub use many::many_page;
 pub use page::page_of;

@@ -1,6 +1,6 @@
 //! Logs of executions.
 
-ghost use Rattle.std.specs.Prelude.{◌≡◌, ◌++◌, IfOk, IfErr, codes, decimal, string_bytes};
+ghost use Rattle.std.specs.Prelude.{◌≡◌, ◌++◌, true, IfOk, IfErr, codes, decimal, string_bytes};
 ghost use Rattle.fleet_map.specs.Form.{HasSides};
 ghost use Rattle.fleet_map.specs.Grammar.{view};
 ghost use Rattle.fleet_view.specs.Runs.{runs_page};
@@ -72,8 +72,9 @@ fn log_on(alloc: Global, floor: &MapText, text: &[u8]) -> Result<Vec<u8>, AllocE
     runs_page(alloc, floor, &run)
 }
 
-/// The page of a log on a map. The log is shown as it is, whatever its lines say; see `is_log`.
+/// The page of a log on a map. The log is shown as it is, whatever its lines say.
 pub fn log_page(alloc: Global, bytes: &[u8], text: &[u8]) -> Result<Vec<u8>, MapFault>
+    requires { is_log text.now ≡ true }
     ensures page { IfOk result (λ page. IsLogPage bytes.now text.now page.items) }
     ensures fault { IfErr result (IsNoLogPage bytes.now) }
 {
