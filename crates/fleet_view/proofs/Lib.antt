@@ -6,3 +6,4 @@ pub mod Closed
 pub mod Signs
 pub mod Told
 pub mod ClosedRuns
+pub mod Paired

@@ -1,11 +1,12 @@
 -- The page of two runs: each is a plan, a log or a trace.
-use Rattle.std.specs.Prelude.{⊤, ◌≡◌, ◌⊎◌, ℕ, Bool, true, false, List, ◌++◌, length, Ok, Err, codes}
+use Rattle.std.specs.Prelude.{⊤, ◌≡◌, ◌≢◌, ◌⊎◌, ℕ, Bool, true, false, List, ◌++◌, length, Ok, Err, codes}
 use Rattle.std.specs.declared.alloc.Global.{Global}
 use Rattle.fleet_map.specs.Grammar.{Map, map_of}
 use Rattle.fleet_grid.specs.Floor.{floor_of_map}
 use Rattle.fleet_trace.specs.Trace.{Trace}
 use Rattle.fleet_trace.specs.Text.{trace_text}
 use Rattle.fleet_trace.specs.Reads.{Tells, IsTraceFault}
+use Rattle.fleet_trace.specs.declared.fault.TraceFault.TheVariants as trace_fault
 use Rattle.fleet_plans.specs.declared.answer.PlanAnswer.{PlanAnswer}
 use Rattle.fleet_plans.specs.Form.{is_plan}
 use Rattle.fleet_plans.specs.Goals.{Nothing}
@@ -63,7 +64,7 @@ IsShownTrace m text run = (t : Trace Global) × Tells text t × IsJudgedRun m t 
 abbrev pub IsNoTrace : Map → ℕ → List ℕ → RunFault → Type 0
 IsNoTrace m number text (fault.Map f) = ⊥
 IsNoTrace m number text (fault.Plan said) = ⊥
-IsNoTrace m number text (fault.Trace f) = IsTraceFault text f
+IsNoTrace m number text (fault.Trace f) = IsTraceFault text f × (f ≢ trace_fault.NoMemory)
 IsNoTrace m number text (fault.OffMap named) = (t : Trace Global) × Tells text t × IsNoTraceOn m number t (fault.OffMap named)
 IsNoTrace m number text fault.NoMemory = ⊤
 
@@ -94,6 +95,20 @@ IsRun bytes m text run = IsRunIf (is_plan text) bytes m text run
 abbrev pub IsNoRun : Map → ℕ → List ℕ → RunFault → Type 0
 IsNoRun m number text f = IsNoRunIf (is_plan text) m number text f
 
+-- the page has a run with this text, and another one
+pub record IsSecondOn (bytes : List ℕ) (m : Map) (first other page : List ℕ) : Type 0 where
+  pub second : List ℕ
+  pub is_second : IsRun bytes m other second
+  pub is : page ≡ runs_page m (first ++ second)
+
+-- why the other one is not shown, unless memory ran out
+abbrev pub IsSecondWrong : Map → List ℕ → RunFault → Type 0
+IsSecondWrong m other (fault.Map f) = IsNoRun m 2 other (fault.Map f)
+IsSecondWrong m other (fault.Plan said) = IsNoRun m 2 other (fault.Plan said)
+IsSecondWrong m other (fault.Trace f) = IsNoRun m 2 other (fault.Trace f)
+IsSecondWrong m other (fault.OffMap number) = IsNoRun m 2 other (fault.OffMap number)
+IsSecondWrong m other fault.NoMemory = ⊤
+
 -- the page has both runs
 pub record IsPairOn (bytes : List ℕ) (m : Map) (one other page : List ℕ) : Type 0 where
   pub first : List ℕ
@@ -103,8 +118,16 @@ pub record IsPairOn (bytes : List ℕ) (m : Map) (one other page : List ℕ) : T
   pub is : page ≡ runs_page m (first ++ second)
 
 -- the first that is not shown, and why
+abbrev pub IsFirstWrong : List ℕ → Map → List ℕ → List ℕ → RunFault → Type 0
+IsFirstWrong bytes m one other f = IsNoRun m 1 one f ⊎ ((first : List ℕ) × IsRun bytes m one first × IsNoRun m 2 other f)
+
+-- the same, unless memory ran out
 abbrev pub IsUnpairedOn : List ℕ → Map → List ℕ → List ℕ → RunFault → Type 0
-IsUnpairedOn bytes m one other f = IsNoRun m 1 one f ⊎ ((first : List ℕ) × IsRun bytes m one first × IsNoRun m 2 other f)
+IsUnpairedOn bytes m one other (fault.Map f) = IsFirstWrong bytes m one other (fault.Map f)
+IsUnpairedOn bytes m one other (fault.Plan said) = IsFirstWrong bytes m one other (fault.Plan said)
+IsUnpairedOn bytes m one other (fault.Trace f) = IsFirstWrong bytes m one other (fault.Trace f)
+IsUnpairedOn bytes m one other (fault.OffMap number) = IsFirstWrong bytes m one other (fault.OffMap number)
+IsUnpairedOn bytes m one other fault.NoMemory = ⊤
 
 -- on the map of a text
 pub record IsPairPage (bytes one other page : List ℕ) : Type 0 where

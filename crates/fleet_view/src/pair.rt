@@ -6,8 +6,9 @@ ghost use Rattle.fleet_map.specs.Grammar.{view, map_of};
 ghost use Rattle.fleet_grid.specs.Floor.{floor_of_map};
 ghost use Rattle.fleet_trace.specs.Trace.{trace_of};
 ghost use Rattle.fleet_trace.specs.Text.{trace_text};
-ghost use Rattle.fleet_view.specs.Pair.{IsShownPlan, IsNoPlan, trace_run, IsJudgedRun, IsNoTraceOn, IsShownTrace, IsNoTrace, IsOtherIf, IsNoOtherIf, IsRun, IsNoRun, IsPairOn, IsUnpairedOn, IsPairPage, IsUnpaired};
+ghost use Rattle.fleet_view.specs.Pair.{IsShownPlan, IsNoPlan, trace_run, IsJudgedRun, IsNoTraceOn, IsShownTrace, IsNoTrace, IsOtherIf, IsNoOtherIf, IsRun, IsNoRun, IsSecondOn, IsSecondWrong, IsPairOn, IsUnpairedOn, IsPairPage, IsUnpaired};
 ghost use Rattle.fleet_view.specs.Logs.{is_log};
+ghost use Rattle.fleet_view.specs.Runs.{runs_page};
 ghost use Rattle.fleet_view.specs.Verdicts.{verdict_text};
 
 use crate::cells::is_chapter_on;
@@ -58,7 +59,10 @@ fn plan_on(alloc: Global, floor: &MapText, bytes: &[u8], text: &[u8]) -> Result<
     if !is_judged(study.answer) {
         return Err(RunFault::Plan(study.answer));
     }
-    Ok(studied_run(alloc, floor.width, bytes, text, &study)?)
+    match studied_run(alloc, floor.width, bytes, text, &study) {
+        Ok(run) => Ok(run),
+        Err(AllocError) => Err(RunFault::NoMemory),
+    }
 }
 
 /// The text of a chapter, with this verdict.
@@ -78,6 +82,13 @@ fn trace_run(
     Ok(out)
 }
 
+/// How many cells the map has.
+fn cell_count(floor: &MapText) -> usize
+    ensures { result ≡ length (view floor.now).cells }
+{
+    floor.cells.len()
+}
+
 /// The text of a chapter that has this number.
 fn chapter_on(
     alloc: Global,
@@ -90,11 +101,15 @@ fn chapter_on(
     ensures run { IfOk result (λ run. IsJudgedRun (view floor.now) (trace_of chapter.now) run.items) }
     ensures fault { IfErr result (λ fault. IsNoTraceOn (view floor.now) number (trace_of chapter.now) fault) }
 {
-    if !is_chapter_on(floor.cells.len(), chapter) {
+    let count = cell_count(floor);
+    if !is_chapter_on(count, chapter) {
         return Err(RunFault::OffMap(number));
     }
     let verdict = judge_chapter(alloc, grid, chapter)?;
-    Ok(trace_run(alloc, verdict, chapter)?)
+    match trace_run(alloc, verdict, chapter) {
+        Ok(run) => Ok(run),
+        Err(AllocError) => Err(RunFault::NoMemory),
+    }
 }
 
 /// The text of a trace that has this number.
@@ -111,6 +126,7 @@ fn trace_on(
 {
     match read_trace(alloc, text) {
         Ok(chapter) => chapter_on(alloc, floor, grid, &chapter, number),
+        Err(TraceFault::NoMemory) => Err(RunFault::NoMemory),
         Err(fault) => Err(RunFault::Trace(fault)),
     }
 }
@@ -128,7 +144,10 @@ fn other_on(
     ensures fault { IfErr result (λ fault. IsNoOtherIf (is_log text.now) (view floor.now) number text.now fault) }
 {
     if is_log(text) {
-        Ok(log_run(alloc, text)?)
+        match log_run(alloc, text) {
+            Ok(run) => Ok(run),
+            Err(AllocError) => Err(RunFault::NoMemory),
+        }
     } else {
         trace_on(alloc, floor, grid, text, number)
     }
@@ -156,6 +175,69 @@ fn run_on(
     }
 }
 
+/// The page of two runs whose texts are these.
+fn joined_page(
+    alloc: Global,
+    floor: &MapText,
+    first: Vec<u8>,
+    second: &[u8],
+) -> Result<Vec<u8>, AllocError>
+    requires { HasSides (view floor.now) }
+    ensures { IfOk result (λ page. page.items ≡ runs_page (view floor.now) (first.items ++ second.now)) }
+{
+    let mut runs = first;
+    runs.extend_from_slice(second)?;
+    runs_page(alloc, floor, &runs)
+}
+
+/// The page of a run whose text is this, and of a second one.
+fn second_on(
+    alloc: Global,
+    floor: &MapText,
+    grid: &Grid,
+    bytes: &[u8],
+    first: Vec<u8>,
+    other: &[u8],
+) -> Result<Vec<u8>, RunFault>
+    requires sides { HasSides (view floor.now) }
+    requires grid { grid.now ≡ floor_of_map (view floor.now) }
+    requires read { map_of bytes.now ≡ Ok (view floor.now) }
+    requires short { length other.now ≤ MOST_PLAN_BYTES }
+    ensures page { IfOk result (λ page. IsSecondOn bytes.now (view floor.now) first.items other.now page.items) }
+    ensures fault { IfErr result (λ fault. IsSecondWrong (view floor.now) other.now fault) }
+{
+    match run_on(alloc, floor, grid, bytes, other, 2) {
+        Ok(second) => match joined_page(alloc, floor, first, &second) {
+            Ok(page) => Ok(page),
+            Err(AllocError) => Err(RunFault::NoMemory),
+        },
+        Err(fault) => Err(fault),
+    }
+}
+
+/// The page of two runs on a map that was read, and its grid.
+fn both_on(
+    alloc: Global,
+    floor: &MapText,
+    grid: &Grid,
+    bytes: &[u8],
+    one: &[u8],
+    other: &[u8],
+) -> Result<Vec<u8>, RunFault>
+    requires sides { HasSides (view floor.now) }
+    requires grid { grid.now ≡ floor_of_map (view floor.now) }
+    requires read { map_of bytes.now ≡ Ok (view floor.now) }
+    requires short_one { length one.now ≤ MOST_PLAN_BYTES }
+    requires short_other { length other.now ≤ MOST_PLAN_BYTES }
+    ensures page { IfOk result (λ page. IsPairOn bytes.now (view floor.now) one.now other.now page.items) }
+    ensures fault { IfErr result (λ fault. IsUnpairedOn bytes.now (view floor.now) one.now other.now fault) }
+{
+    match run_on(alloc, floor, grid, bytes, one, 1) {
+        Ok(first) => second_on(alloc, floor, grid, bytes, first, other),
+        Err(fault) => Err(fault),
+    }
+}
+
 /// The page of two runs on a map that was read.
 fn pair_on(
     alloc: Global,
@@ -171,11 +253,10 @@ fn pair_on(
     ensures page { IfOk result (λ page. IsPairOn bytes.now (view floor.now) one.now other.now page.items) }
     ensures fault { IfErr result (λ fault. IsUnpairedOn bytes.now (view floor.now) one.now other.now fault) }
 {
-    let grid = grid_of(alloc, floor)?;
-    let mut runs = run_on(alloc, floor, &grid, bytes, one, 1)?;
-    let second = run_on(alloc, floor, &grid, bytes, other, 2)?;
-    runs.extend_from_slice(&second)?;
-    Ok(runs_page(alloc, floor, &runs)?)
+    match grid_of(alloc, floor) {
+        Ok(grid) => both_on(alloc, floor, &grid, bytes, one, other),
+        Err(AllocError) => Err(RunFault::NoMemory),
+    }
 }
 
 /// The page of two runs, each of which is a plan, a log of an execution or a trace, next to each other. A plan may have
