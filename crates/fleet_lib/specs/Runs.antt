@@ -7,8 +7,6 @@ use Rattle.fleet_view.specs.declared.fault.ViewFault.{ViewFault}
 use Rattle.fleet_view.specs.declared.fault.ViewFault.TheVariants as fault
 use Rattle.fleet_view.specs.declared.pair.RunFault.{RunFault}
 use Rattle.fleet_view.specs.declared.pair.RunFault.TheVariants as run_fault
-use Rattle.fleet_map.specs.declared.fault.MapFault.{MapFault}
-use Rattle.fleet_map.specs.declared.fault.MapFault.TheVariants as map_fault
 use Rattle.fleet_view.specs.View.{IsPage, IsUnshown}
 use Rattle.fleet_view.specs.Logs.{is_log, IsLogPage, IsNoLogPage}
 use Rattle.fleet_view.specs.Runs.{IsManyShown}
@@ -20,25 +18,15 @@ use Rattle.fleet_lib.specs.Said.{Outcome, said_of}
 use Rattle.fleet_lib.specs.View.{faulty}
 
 -- the page is said, if there is one
-abbrev pub IsSaidOf : Option (Vec ℕ Global) → Option Said → Type 0
-IsSaidOf (Some page) (Some said) = said_of said ≡ good page.items 0
-IsSaidOf None None = Unit {0}
-IsSaidOf (Some page) None = ⊥
-IsSaidOf None (Some said) = ⊥
+abbrev pub IsPageSaid : Option (Vec ℕ Global) → Option Said → Type 0
+IsPageSaid (Some page) (Some said) = said_of said ≡ good page.items 0
+IsPageSaid None None = Unit {0}
+IsPageSaid (Some page) None = ⊥
+IsPageSaid None (Some said) = ⊥
 
 -- what is said of a plan with more than 512 robots, and of that alone
 abbrev pub IsManySaid : List ℕ → List ℕ → Option Said → Type 0
-IsManySaid map plan said = (page : Option (Vec ℕ Global)) × IsManyShown map plan page × IsSaidOf page said
-
--- the map is at fault, or memory ran out
-abbrev pub map_refused : MapFault → Outcome
-map_refused map_fault.NoMemory = faulty fault.NoMemory
-map_refused f = faulty (fault.Map f)
-
--- what is said to a log of an execution
-pub data IsLogSaid (map log : List ℕ) (o : Outcome) : Type 0 where
-  logged : (page : List ℕ) → IsLogPage map log page → o ≡ good page 0 → IsLogSaid map log o
-  no_map : (f : MapFault) → IsNoLogPage map f → o ≡ map_refused f → IsLogSaid map log o
+IsManySaid map plan said = (page : Option (Vec ℕ Global)) × IsManyShown map plan page × IsPageSaid page said
 
 -- as of a trace, and of a plan, alone
 abbrev pub pair_refused : RunFault → Outcome
@@ -47,6 +35,11 @@ pair_refused (run_fault.Plan a) = plan_refused a
 pair_refused (run_fault.Trace f) = faulty (fault.Trace f)
 pair_refused (run_fault.OffMap number) = faulty (fault.OffMap number)
 pair_refused run_fault.NoMemory = faulty fault.NoMemory
+
+-- what is said to a log of an execution
+pub data IsLogSaid (map log : List ℕ) (o : Outcome) : Type 0 where
+  logged : (page : List ℕ) → IsLogPage map log page → o ≡ good page 0 → IsLogSaid map log o
+  unlogged : (f : RunFault) → IsNoLogPage map f → o ≡ pair_refused f → IsLogSaid map log o
 
 -- what is said to two runs
 pub data IsPairSaid (map one other : List ℕ) (o : Outcome) : Type 0 where

@@ -4,13 +4,12 @@ ghost use Rattle.std.specs.Prelude.{◌≡◌, ◌≤◌, ◌∷◌, [], true, l
 ghost use Rattle.fleet_view.specs.Logs.{is_log};
 ghost use Rattle.fleet_view.specs.View.{IsUnshown};
 ghost use Rattle.fleet_lib.specs.Check.{good};
-ghost use Rattle.fleet_lib.specs.Runs.{IsLogSaid, IsManySaid, IsPairSaid, IsTracesSaid, IsTwoSaid, is_chapter, is_run, map_refused, pair_refused};
+ghost use Rattle.fleet_lib.specs.Runs.{IsLogSaid, IsManySaid, IsPageSaid, IsPairSaid, IsTracesSaid, IsTwoSaid, is_chapter, is_run, pair_refused};
 ghost use Rattle.fleet_lib.specs.Said.{said_of};
 
 use crate::plan_trace::plan_refused;
 use crate::said::Said;
 use crate::view::faulty;
-use fleet_map::MapFault;
 use fleet_plans::{MOST_PLAN_BYTES, is_plan};
 use fleet_view::{RunFault, ViewFault, is_log, log_page, many_page, pair_page, view_page};
 use std::alloc::{AllocError, Global};
@@ -26,25 +25,36 @@ fn shown(alloc: Global, page: Vec<u8>) -> Said
     }
 }
 
+/// The answer with a page, if there is one.
+fn said_many(alloc: Global, page: Option<Vec<u8>>) -> Option<Said>
+    ensures { IsPageSaid page result }
+{
+    match page {
+        Some(page) => Some(shown(alloc, page)),
+        None => None,
+    }
+}
+
 /// The answer to a map and a plan that is read, valid or not, and has more than 512 robots: its page. `None` for any other
 /// text.
 pub fn answer_many(alloc: Global, map: &[u8], plan: &[u8]) -> Result<Option<Said>, AllocError>
     requires { length plan.now ≤ MOST_PLAN_BYTES }
     ensures { IfOk result (IsManySaid map.now plan.now) }
 {
-    match many_page(alloc, map, plan)? {
-        Some(page) => Ok(Some(shown(alloc, page))),
-        None => Ok(None),
-    }
+    let page = many_page(alloc, map, plan)?;
+    Ok(said_many(alloc, page))
 }
 
-/// The answer where a map cannot be read.
-fn map_refused(alloc: Global, fault: MapFault) -> Result<Said, AllocError>
-    ensures { IfOk result (λ s. said_of s ≡ map_refused fault) }
+/// The answer if runs cannot be shown.
+fn pair_refused(alloc: Global, fault: RunFault) -> Result<Said, AllocError>
+    ensures { IfOk result (λ s. said_of s ≡ pair_refused fault) }
 {
     match fault {
-        MapFault::NoMemory => faulty(alloc, ViewFault::NoMemory),
-        fault => faulty(alloc, ViewFault::Map(fault)),
+        RunFault::Map(fault) => faulty(alloc, ViewFault::Map(fault)),
+        RunFault::Plan(answer) => plan_refused(alloc, answer),
+        RunFault::Trace(fault) => faulty(alloc, ViewFault::Trace(fault)),
+        RunFault::OffMap(number) => faulty(alloc, ViewFault::OffMap(number)),
+        RunFault::NoMemory => faulty(alloc, ViewFault::NoMemory),
     }
 }
 
@@ -55,20 +65,7 @@ pub fn answer_log(alloc: Global, map: &[u8], log: &[u8]) -> Result<Said, AllocEr
 {
     match log_page(alloc, map, log) {
         Ok(page) => Ok(shown(alloc, page)),
-        Err(fault) => map_refused(alloc, fault),
-    }
-}
-
-/// The answer if two runs cannot be shown.
-fn pair_refused(alloc: Global, fault: RunFault) -> Result<Said, AllocError>
-    ensures { IfOk result (λ s. said_of s ≡ pair_refused fault) }
-{
-    match fault {
-        RunFault::Map(fault) => faulty(alloc, ViewFault::Map(fault)),
-        RunFault::Plan(answer) => plan_refused(alloc, answer),
-        RunFault::Trace(fault) => faulty(alloc, ViewFault::Trace(fault)),
-        RunFault::OffMap(number) => faulty(alloc, ViewFault::OffMap(number)),
-        RunFault::NoMemory => faulty(alloc, ViewFault::NoMemory),
+        Err(fault) => pair_refused(alloc, fault),
     }
 }
 

@@ -2,8 +2,8 @@
 use Rattle.std.specs.Prelude.{◌≡◌, ℕ, Bool, true, false, ◌&&◌, ◌||◌, nat_lt, List, [], ◌∷◌, ◌++◌, length, Ok, Err, ◌==◌, codes, decimal}
 use Rattle.std.specs.List.{list_all}
 use Rattle.fleet_map.specs.Grammar.{Map, map_of}
-use Rattle.fleet_map.specs.declared.fault.MapFault.{MapFault}
-use Rattle.fleet_map.specs.declared.fault.MapFault.TheVariants as fault
+use Rattle.fleet_view.specs.declared.pair.RunFault.{RunFault}
+use Rattle.fleet_view.specs.declared.pair.RunFault.TheVariants as fault
 use Rattle.fleet_view.specs.Runs.{runs_page}
 
 abbrev pub is_digit : ℕ → Bool
@@ -36,6 +36,9 @@ pub record IsLogPage (bytes text page : List ℕ) : Type 0 where
   pub is : page ≡ runs_page floor (log_run text)
 
 -- why there is none, unless memory ran out
-abbrev pub IsNoLogPage : List ℕ → MapFault → Type 0
+abbrev pub IsNoLogPage : List ℕ → RunFault → Type 0
+IsNoLogPage bytes (fault.Map f) = map_of bytes ≡ Err f
+IsNoLogPage bytes (fault.Plan said) = ⊥
+IsNoLogPage bytes (fault.Trace f) = ⊥
+IsNoLogPage bytes (fault.OffMap number) = ⊥
 IsNoLogPage bytes fault.NoMemory = Unit {0}
-IsNoLogPage bytes f = map_of bytes ≡ Err f

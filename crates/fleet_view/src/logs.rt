@@ -6,6 +6,7 @@ ghost use Rattle.fleet_map.specs.Grammar.{view};
 ghost use Rattle.fleet_view.specs.Runs.{runs_page};
 ghost use Rattle.fleet_view.specs.Logs.{is_digit, is_small, is_log_byte, is_begun, is_log, log_run, IsLogPage, IsNoLogPage};
 
+use crate::pair::RunFault;
 use crate::runs::runs_page;
 use fleet_map::{MapFault, MapText, read_map};
 use std::alloc::{AllocError, Global};
@@ -73,7 +74,7 @@ fn log_on(alloc: Global, floor: &MapText, text: &[u8]) -> Result<Vec<u8>, AllocE
 }
 
 /// The page of a log on a map. The log is shown as it is, whatever its lines say.
-pub fn log_page(alloc: Global, bytes: &[u8], text: &[u8]) -> Result<Vec<u8>, MapFault>
+pub fn log_page(alloc: Global, bytes: &[u8], text: &[u8]) -> Result<Vec<u8>, RunFault>
     requires { is_log text.now ≡ true }
     ensures page { IfOk result (λ page. IsLogPage bytes.now text.now page.items) }
     ensures fault { IfErr result (IsNoLogPage bytes.now) }
@@ -81,8 +82,9 @@ pub fn log_page(alloc: Global, bytes: &[u8], text: &[u8]) -> Result<Vec<u8>, Map
     match read_map(alloc, bytes) {
         Ok(floor) => match log_on(alloc, &floor, text) {
             Ok(page) => Ok(page),
-            Err(AllocError) => Err(MapFault::NoMemory),
+            Err(AllocError) => Err(RunFault::NoMemory),
         },
-        Err(fault) => Err(fault),
+        Err(MapFault::NoMemory) => Err(RunFault::NoMemory),
+        Err(fault) => Err(RunFault::Map(fault)),
     }
 }

@@ -43,7 +43,7 @@ function placementsOf(width, text, from, count) {
   for (let time = 0; time < count; time += 1) {
     const start = time * robots;
     let robot = 0;
-    for (let code = text.charCodeAt(at); code !== LINE_END; code = text.charCodeAt(at)) {
+    for (let code = text.charCodeAt(at); code !== LINE_END && at < text.length; code = text.charCodeAt(at)) {
       if (robot < robots) before[robot] = code === JUMP ? cellSignsAt(text, at + 1) : before[robot] + deltas[code];
       at += code === JUMP ? 1 + CELL_SIGNS : 1;
       robot += 1;
