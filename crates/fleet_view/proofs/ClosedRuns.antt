@@ -28,7 +28,13 @@ more : (part : ℕ) (rest : List ℕ) → HasNoTag rest → HasNoTag (sign part 
 more part rest e = and-intro (is_other (sign part)) (list_all is_other rest) (sign-closed part) e
 
 cell-closed : (cell : ℕ) → HasNoTag (33 ∷ cell_signs cell)
-cell-closed cell = more (cell / 1073741824) _ (more (cell / 16777216) _ (more (cell / 262144) _ (more (cell / 4096) _ (more (cell / 64) _ (more cell [] refl)))))
+cell-closed cell =
+    let a : List ℕ = sign cell ∷ [] in
+    let b : List ℕ = sign (cell / 64) ∷ a in
+    let d : List ℕ = sign (cell / 4096) ∷ b in
+    let e : List ℕ = sign (cell / 262144) ∷ d in
+    let f : List ℕ = sign (cell / 16777216) ∷ e in
+    more (cell / 1073741824) f (more (cell / 16777216) e (more (cell / 262144) d (more (cell / 4096) b (more (cell / 64) a (more cell [] refl)))))
 
 by_letter : (b : Bool) (to : ℕ) (x y : Option ℕ) → HasNoTag (signs_of to x) → HasNoTag (signs_of to y) → HasNoTag (signs_of to (if b then x else y))
 by_letter true to x y e f = e
@@ -36,7 +42,15 @@ by_letter false to x y e f = f
 
 step-closed : (width from to : ℕ) → HasNoTag (step_signs width from to)
 step-closed width from to =
-    by_letter (to == from) to _ _ refl (by_letter (to + width == from) to _ _ refl (by_letter (from + width == to) to _ _ refl (by_letter (to + 1 == from) to _ _ refl (by_letter (from + 1 == to) to _ _ refl (cell-closed to)))))
+    let a : Option ℕ = if from + 1 == to then Some 101 else None in
+    let b : Option ℕ = if to + 1 == from then Some 119 else a in
+    let d : Option ℕ = if from + width == to then Some 115 else b in
+    let e : Option ℕ = if to + width == from then Some 110 else d in
+    by_letter (to == from) to (Some 46) e refl
+    (by_letter (to + width == from) to (Some 110) d refl
+    (by_letter (from + width == to) to (Some 115) b refl
+    (by_letter (to + 1 == from) to (Some 119) a refl
+    (by_letter (from + 1 == to) to (Some 101) None refl (cell-closed to)))))
 
 steps-closed : (width : ℕ) (from to : List ℕ) (r : ℕ) → HasNoTag (steps_below width from to r)
 steps-closed width from to zero = refl

@@ -13,7 +13,7 @@ use Rattle.fleet_view.specs.declared.pair.RunFault.{RunFault}
 use Rattle.fleet_view.specs.declared.pair.RunFault.TheVariants as fault
 use Rattle.fleet_view.specs.declared.verdict.ChapterVerdict.{ChapterVerdict}
 use Rattle.fleet_view.specs.Cells.{is_trace_on}
-use Rattle.fleet_view.specs.Logs.{is_log}
+use Rattle.fleet_view.specs.Logs.{is_log, log_run}
 use Rattle.fleet_view.specs.Runs.{is_judged, IsPlanRun, runs_page}
 use Rattle.fleet_view.specs.Verdicts.{IsVerdictOn}
 use Rattle.fleet_view.specs.Pair.{IsShownPlan, IsNoPlan, trace_run, IsJudgedRun, IsNoTraceOn, IsNoTrace, IsNoOtherIf, IsNoRunIf, IsNoRun, IsRun, IsSecondOn, IsSecondWrong, IsPairOn, IsUnpairedOn, IsPairPage, IsUnpaired}
@@ -99,3 +99,8 @@ unpaired bytes one other m fault.NoMemory read why = tt
 
 pub paired : (bytes one other : List ℕ) (m : Map) (page : List ℕ) → map_of bytes ≡ Ok m → IsPairOn bytes m one other page → IsPairPage bytes one other page
 paired bytes one other m page read on = record { floor = m; read = read; on = on }
+
+-- ---- a log
+
+pub log-made : (m : Map) (text made same page : List ℕ) → made ≡ log_run text → same ≡ made → page ≡ runs_page m same → page ≡ runs_page m (log_run text)
+log-made m text made same page made-is same-is is = is ∙ ap (λ (r : List ℕ). runs_page m r) (same-is ∙ made-is)

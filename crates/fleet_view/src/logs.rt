@@ -1,6 +1,7 @@
 //! Logs of executions.
 
 ghost use Rattle.std.specs.Prelude.{◌≡◌, ◌++◌, true, IfOk, IfErr, codes, decimal, string_bytes};
+ghost use Rattle.std.specs.List.{list_all};
 ghost use Rattle.fleet_map.specs.Form.{HasSides};
 ghost use Rattle.fleet_map.specs.Grammar.{view};
 ghost use Rattle.fleet_view.specs.Runs.{runs_page};
@@ -29,6 +30,12 @@ fn is_log_byte(b: u8) -> bool
     is_small(b) || is_digit(b) || b == b' ' || b == b'.' || b == b'-' || b == b'\n'
 }
 
+fn are_log_bytes(text: &[u8]) -> bool
+    ensures { result ≡ list_all is_log_byte text.now }
+{
+    text.iter().all(|b| is_log_byte(*b))
+}
+
 fn is_begun(text: &[u8]) -> bool
     ensures { result ≡ is_begun text.now }
 {
@@ -43,7 +50,7 @@ fn is_begun(text: &[u8]) -> bool
 pub fn is_log(text: &[u8]) -> bool
     ensures { result ≡ is_log text.now }
 {
-    is_begun(text) && text.iter().all(|b| is_log_byte(*b))
+    is_begun(text) && are_log_bytes(text)
 }
 
 /// The line before a log of this length.
@@ -69,8 +76,8 @@ fn log_on(alloc: Global, floor: &MapText, text: &[u8]) -> Result<Vec<u8>, AllocE
     requires { HasSides (view floor.now) }
     ensures { IfOk result (λ page. page.items ≡ runs_page (view floor.now) (log_run text.now)) }
 {
-    let run = log_run(alloc, text)?;
-    runs_page(alloc, floor, &run)
+    let made = log_run(alloc, text)?;
+    runs_page(alloc, floor, &made)
 }
 
 /// The page of a log on a map. The log is shown as it is, whatever its lines say.

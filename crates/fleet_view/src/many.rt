@@ -33,8 +33,8 @@ fn studied_page(
     requires short { length plan.now ≤ MOST_PLAN_BYTES }
     ensures { IfOk result (λ page. IsPlanPage bytes.now plan.now (view floor.now) study.now.answer study.now.places page.items) }
 {
-    let run = studied_run(alloc, floor.width, bytes, plan, study)?;
-    runs_page(alloc, floor, &run)
+    let made = studied_run(alloc, floor.width, bytes, plan, study)?;
+    runs_page(alloc, floor, &made)
 }
 
 /// The same, if the plan has more robots than a trace.

@@ -60,7 +60,7 @@ fn plan_on(alloc: Global, floor: &MapText, bytes: &[u8], text: &[u8]) -> Result<
         return Err(RunFault::Plan(study.answer));
     }
     match studied_run(alloc, floor.width, bytes, text, &study) {
-        Ok(run) => Ok(run),
+        Ok(made) => Ok(made),
         Err(AllocError) => Err(RunFault::NoMemory),
     }
 }
@@ -107,7 +107,7 @@ fn chapter_on(
     }
     let verdict = judge_chapter(alloc, grid, chapter)?;
     match trace_run(alloc, verdict, chapter) {
-        Ok(run) => Ok(run),
+        Ok(made) => Ok(made),
         Err(AllocError) => Err(RunFault::NoMemory),
     }
 }
@@ -145,7 +145,7 @@ fn other_on(
 {
     if is_log(text) {
         match log_run(alloc, text) {
-            Ok(run) => Ok(run),
+            Ok(made) => Ok(made),
             Err(AllocError) => Err(RunFault::NoMemory),
         }
     } else {

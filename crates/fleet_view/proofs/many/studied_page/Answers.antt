@@ -7,5 +7,5 @@ use Rattle.fleet_view.proofs.many.studied_page.Goals as goal
 pub returns : goal.returns
 returns c =
     IfOk-weaker c.runs_page.result _ _
-    (λ page is. paged c.args.bytes.now c.args.plan.now (view c.args.floor.now) c.args.study.now.answer c.args.study.now.places c.in_ok-run.run.items c.deref.result.now page.items c.in_ok-run.ensures c.deref.ensures.value is)
+    (λ page is. paged c.args.bytes.now c.args.plan.now (view c.args.floor.now) c.args.study.now.answer c.args.study.now.places c.in_ok-made.made.items c.deref.result.now page.items c.in_ok-made.ensures c.deref.ensures.value is)
     c.runs_page.ensures

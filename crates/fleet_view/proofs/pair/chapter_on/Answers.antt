@@ -11,5 +11,5 @@ returns-then-not-is_chapter_on-clause-fault c =
 
 pub returns-in-Ok-clause-run : goal.returns-in-Ok-clause-run
 returns-in-Ok-clause-run c =
-    judged-run (view c.args.floor.now) c.args.grid.now (trace_of c.args.chapter.now) c.cell_count-count.result c.in_ok-verdict.verdict c.in-Ok.run.items c.requires c.cell_count-count.ensures
+    judged-run (view c.args.floor.now) c.args.grid.now (trace_of c.args.chapter.now) c.cell_count-count.result c.in_ok-verdict.verdict c.in-Ok.made.items c.requires c.cell_count-count.ensures
     (sym c.is_chapter_on.ensures ∙ c.if-not-is_chapter_on.false) c.in_ok-verdict.ensures c.in-Ok.ensures

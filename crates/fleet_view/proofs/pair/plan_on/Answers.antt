@@ -10,4 +10,4 @@ returns-then-not-is_judged-clause-fault c =
 
 pub returns-in-Ok-clause-run : goal.returns-in-Ok-clause-run
 returns-in-Ok-clause-run c =
-    planned c.args.bytes.now c.args.text.now (view c.args.floor.now) c.in_ok-study.study c.requires.read c.in_ok-study.ensures c.in-Ok.run.items (sym c.is_judged.ensures ∙ c.if-not-is_judged.false) c.in-Ok.ensures
+    planned c.args.bytes.now c.args.text.now (view c.args.floor.now) c.in_ok-study.study c.requires.read c.in_ok-study.ensures c.in-Ok.made.items (sym c.is_judged.ensures ∙ c.if-not-is_judged.false) c.in-Ok.ensures
