@@ -31,13 +31,13 @@ fn answer_one<'a, R: Files + Alloc<A = Global>>(
     name: &'a str,
 ) -> Result<Said, FileFault<'a>> {
     let input = file_bytes(rt, name, MOST_TRACE_BYTES)?;
+    if is_log(&input) {
+        return Ok(answer_log(rt.alloc(), map, &input)?);
+    }
     if is_plan(&input) {
         if let Some(said) = answer_many(rt.alloc(), map, &input)? {
             return Ok(said);
         }
-    }
-    if is_log(&input) {
-        return Ok(answer_log(rt.alloc(), map, &input)?);
     }
     let inputs = only_trace(rt.alloc(), map, input, PlanUse::Shown)?;
     answer_inputs(rt, Shown::Page, map, inputs)

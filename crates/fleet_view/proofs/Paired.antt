@@ -81,17 +81,17 @@ module _ (bytes : List ℕ) (m : Map) (one other : List ℕ) where
 
 -- a run is not refused for its map
 no-other : (b : Bool) (m : Map) (number : ℕ) (text : List ℕ) (f : MapFault) → IsNoOtherIf b m number text (fault.Map f) → ⊥
-no-other true m number text f why = absurd cc
+no-other true m number text f why = why
 no-other false m number text f why = why
 
 no-run : (b : Bool) (m : Map) (number : ℕ) (text : List ℕ) (f : MapFault) → IsNoRunIf b m number text (fault.Map f) → ⊥
-no-run true m number text f why = why
-no-run false m number text f why = no-other (is_log text) m number text f why
+no-run true m number text f why = absurd cc
+no-run false m number text f why = no-other (is_plan text) m number text f why
 
 -- why there is no page on a map that is read
 pub unpaired : (bytes one other : List ℕ) (m : Map) (f : RunFault) → map_of bytes ≡ Ok m → IsUnpairedOn bytes m one other f → IsUnpaired bytes one other f
-unpaired bytes one other m (fault.Map f) read (inl why) = absurd (no-run (is_plan one) m 1 one f why)
-unpaired bytes one other m (fault.Map f) read (inr why) = absurd (no-run (is_plan other) m 2 other f (why.1).1)
+unpaired bytes one other m (fault.Map f) read (inl why) = absurd (no-run (is_log one) m 1 one f why)
+unpaired bytes one other m (fault.Map f) read (inr why) = absurd (no-run (is_log other) m 2 other f (why.1).1)
 unpaired bytes one other m (fault.Plan said) read why = (m, read, why)
 unpaired bytes one other m (fault.Trace f) read why = (m, read, why)
 unpaired bytes one other m (fault.OffMap number) read why = (m, read, why)

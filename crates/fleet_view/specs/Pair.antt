@@ -70,30 +70,30 @@ IsNoTrace m number text fault.NoMemory = ⊤
 
 -- ---- one of them
 
+abbrev pub IsOtherIf : Bool → List ℕ → Map → List ℕ → List ℕ → Type 0
+IsOtherIf true bytes m text run = IsShownPlan bytes m text run
+IsOtherIf false bytes m text run = IsShownTrace m text run
+
 -- a log is shown as it is
-abbrev pub IsOtherIf : Bool → Map → List ℕ → List ℕ → Type 0
-IsOtherIf true m text run = run ≡ log_run text
-IsOtherIf false m text run = IsShownTrace m text run
-
 abbrev pub IsRunIf : Bool → List ℕ → Map → List ℕ → List ℕ → Type 0
-IsRunIf true bytes m text run = IsShownPlan bytes m text run
-IsRunIf false bytes m text run = IsOtherIf (is_log text) m text run
+IsRunIf true bytes m text run = run ≡ log_run text
+IsRunIf false bytes m text run = IsOtherIf (is_plan text) bytes m text run
 
--- a log is refused where memory ran out alone
 abbrev pub IsNoOtherIf : Bool → Map → ℕ → List ℕ → RunFault → Type 0
-IsNoOtherIf true m number text f = f ≡ fault.NoMemory
+IsNoOtherIf true m number text f = IsNoPlan m text f
 IsNoOtherIf false m number text f = IsNoTrace m number text f
 
+-- a log is refused where memory ran out alone
 abbrev pub IsNoRunIf : Bool → Map → ℕ → List ℕ → RunFault → Type 0
-IsNoRunIf true m number text f = IsNoPlan m text f
-IsNoRunIf false m number text f = IsNoOtherIf (is_log text) m number text f
+IsNoRunIf true m number text f = f ≡ fault.NoMemory
+IsNoRunIf false m number text f = IsNoOtherIf (is_plan text) m number text f
 
--- the text of a plan, of a log or of a trace
+-- the text of a log, of a plan or of a trace: a plan that begins with a digit has bytes that no log has
 abbrev pub IsRun : List ℕ → Map → List ℕ → List ℕ → Type 0
-IsRun bytes m text run = IsRunIf (is_plan text) bytes m text run
+IsRun bytes m text run = IsRunIf (is_log text) bytes m text run
 
 abbrev pub IsNoRun : Map → ℕ → List ℕ → RunFault → Type 0
-IsNoRun m number text f = IsNoRunIf (is_plan text) m number text f
+IsNoRun m number text f = IsNoRunIf (is_log text) m number text f
 
 -- the page has a run with this text, and another one
 pub record IsSecondOn (bytes : List ℕ) (m : Map) (first other page : List ℕ) : Type 0 where

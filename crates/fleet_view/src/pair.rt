@@ -7,7 +7,7 @@ ghost use Rattle.fleet_grid.specs.Floor.{floor_of_map};
 ghost use Rattle.fleet_trace.specs.Trace.{trace_of};
 ghost use Rattle.fleet_trace.specs.Text.{trace_text};
 ghost use Rattle.fleet_view.specs.Pair.{IsShownPlan, IsNoPlan, trace_run, IsJudgedRun, IsNoTraceOn, IsShownTrace, IsNoTrace, IsOtherIf, IsNoOtherIf, IsRun, IsNoRun, IsSecondOn, IsSecondWrong, IsPairOn, IsUnpairedOn, IsPairPage, IsUnpaired};
-ghost use Rattle.fleet_view.specs.Logs.{is_log};
+ghost use Rattle.fleet_plans.specs.Form.{is_plan};
 ghost use Rattle.fleet_view.specs.Runs.{runs_page};
 ghost use Rattle.fleet_view.specs.Verdicts.{verdict_text};
 
@@ -131,23 +131,23 @@ fn trace_on(
     }
 }
 
-/// The text of a log, or of a trace that has this number.
+/// The text of a plan, or of a trace that has this number.
 fn other_on(
     alloc: Global,
     floor: &MapText,
     grid: &Grid,
+    bytes: &[u8],
     text: &[u8],
     number: u64,
 ) -> Result<Vec<u8>, RunFault>
-    requires { grid.now ≡ floor_of_map (view floor.now) }
-    ensures run { IfOk result (λ run. IsOtherIf (is_log text.now) (view floor.now) text.now run.items) }
-    ensures fault { IfErr result (λ fault. IsNoOtherIf (is_log text.now) (view floor.now) number text.now fault) }
+    requires grid { grid.now ≡ floor_of_map (view floor.now) }
+    requires read { map_of bytes.now ≡ Ok (view floor.now) }
+    requires short { length text.now ≤ MOST_PLAN_BYTES }
+    ensures run { IfOk result (λ run. IsOtherIf (is_plan text.now) bytes.now (view floor.now) text.now run.items) }
+    ensures fault { IfErr result (λ fault. IsNoOtherIf (is_plan text.now) (view floor.now) number text.now fault) }
 {
-    if is_log(text) {
-        match log_run(alloc, text) {
-            Ok(made) => Ok(made),
-            Err(AllocError) => Err(RunFault::NoMemory),
-        }
+    if is_plan(text) {
+        plan_on(alloc, floor, bytes, text)
     } else {
         trace_on(alloc, floor, grid, text, number)
     }
@@ -168,10 +168,13 @@ fn run_on(
     ensures run { IfOk result (λ run. IsRun bytes.now (view floor.now) text.now run.items) }
     ensures fault { IfErr result (λ fault. IsNoRun (view floor.now) number text.now fault) }
 {
-    if is_plan(text) {
-        plan_on(alloc, floor, bytes, text)
+    if is_log(text) {
+        match log_run(alloc, text) {
+            Ok(made) => Ok(made),
+            Err(AllocError) => Err(RunFault::NoMemory),
+        }
     } else {
-        other_on(alloc, floor, grid, text, number)
+        other_on(alloc, floor, grid, bytes, text, number)
     }
 }
 
