@@ -54,6 +54,12 @@ untraced m number text t fault.NoMemory tells why = tt
 pub second-made : (bytes : List ℕ) (m : Map) (first other second same page : List ℕ) → IsRun bytes m other second → same ≡ second → page ≡ runs_page m (first ++ same) → IsSecondOn bytes m first other page
 second-made bytes m first other second same page run same-is is = record { second = second; is_second = run; is = subst (λ (r : List ℕ). page ≡ runs_page m (first ++ r)) same-is is }
 
+pub joined : (m : Map) (first second runs same page : List ℕ) → runs ≡ first ++ second → same ≡ runs → page ≡ runs_page m same → page ≡ runs_page m (first ++ second)
+joined m first second runs same page runs-is same-is is = is ∙ ap (λ (r : List ℕ). runs_page m r) (same-is ∙ runs-is)
+
+pub memory-alone : (m : Map) (other : List ℕ) (f : RunFault) → f ≡ fault.NoMemory → IsSecondWrong m other f
+memory-alone m other f is = subst (λ (g : RunFault). IsSecondWrong m other g) (sym is) tt
+
 pub second-wrong : (m : Map) (other : List ℕ) (f : RunFault) → IsNoRun m 2 other f → IsSecondWrong m other f
 second-wrong m other (fault.Map f) why = why
 second-wrong m other (fault.Plan said) why = why
@@ -91,7 +97,7 @@ no-run false m number text f why = no-other (is_plan text) m number text f why
 -- why there is no page on a map that is read
 pub unpaired : (bytes one other : List ℕ) (m : Map) (f : RunFault) → map_of bytes ≡ Ok m → IsUnpairedOn bytes m one other f → IsUnpaired bytes one other f
 unpaired bytes one other m (fault.Map f) read (inl why) = absurd (no-run (is_log one) m 1 one f why)
-unpaired bytes one other m (fault.Map f) read (inr why) = absurd (no-run (is_log other) m 2 other f (why.1).1)
+unpaired bytes one other m (fault.Map f) read (inr why) = absurd (no-run (is_log other) m 2 other f why.2)
 unpaired bytes one other m (fault.Plan said) read why = (m, read, why)
 unpaired bytes one other m (fault.Trace f) read why = (m, read, why)
 unpaired bytes one other m (fault.OffMap number) read why = (m, read, why)

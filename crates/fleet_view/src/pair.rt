@@ -184,13 +184,17 @@ fn joined_page(
     floor: &MapText,
     first: Vec<u8>,
     second: &[u8],
-) -> Result<Vec<u8>, AllocError>
+) -> Result<Vec<u8>, RunFault>
     requires { HasSides (view floor.now) }
-    ensures { IfOk result (λ page. page.items ≡ runs_page (view floor.now) (first.items ++ second.now)) }
+    ensures page { IfOk result (λ page. page.items ≡ runs_page (view floor.now) (first.items ++ second.now)) }
+    ensures fault { IfErr result (λ fault. fault ≡ RunFault.NoMemory) }
 {
     let mut runs = first;
     runs.extend_from_slice(second)?;
-    runs_page(alloc, floor, &runs)
+    match runs_page(alloc, floor, &runs) {
+        Ok(page) => Ok(page),
+        Err(AllocError) => Err(RunFault::NoMemory),
+    }
 }
 
 /// The page of a run whose text is this, and of a second one.
@@ -210,10 +214,7 @@ fn second_on(
     ensures fault { IfErr result (λ fault. IsSecondWrong (view floor.now) other.now fault) }
 {
     match run_on(alloc, floor, grid, bytes, other, 2) {
-        Ok(second) => match joined_page(alloc, floor, first, &second) {
-            Ok(page) => Ok(page),
-            Err(AllocError) => Err(RunFault::NoMemory),
-        },
+        Ok(second) => joined_page(alloc, floor, first, &second),
         Err(fault) => Err(fault),
     }
 }
