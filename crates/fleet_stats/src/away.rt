@@ -94,26 +94,33 @@ pub(crate) fn away(
     steps_to(grid, &mut field, from)
 }
 
-/// Makes the field one to this goal, a floor cell, if it is not. After an error it is of no use.
-fn aim(grid: &Grid, field: &mut GrowingField, goal: u32, target: u32) -> Result<(), AllocError>
+/// Makes the field one to this goal, a floor cell: anew, or if it is another's. After an error it is of no use.
+fn aim(
+    grid: &Grid,
+    field: &mut GrowingField,
+    goal: u32,
+    target: u32,
+    anew: bool,
+) -> Result<(), AllocError>
     requires serves { Serves grid.now field.old }
     requires floor { IsFloor grid.now goal }
     ensures serves { OnOk result (Serves grid.now field.new) }
     ensures goal { OnOk result (goal_of field.new ≡ goal) }
 {
-    if field.goal() != goal {
+    if anew || field.goal() != goal {
         field.restart(grid, goal, target)?;
     }
     Ok(())
 }
 
-/// The same as `away` of two floor cells, by a field that is kept from question to question: those for one goal that
-/// follow one another share a search. After an error it is of no use.
+/// The same as `away` of two floor cells, by a field in whose memory it is searched: anew, or further if it is one to
+/// this goal. After an error it is of no use.
 pub(crate) fn away_by(
     grid: &Grid,
     field: &mut GrowingField,
     from: u32,
     to: u32,
+    anew: bool,
 ) -> Result<Option<u32>, AllocError>
     requires serves { Serves grid.now field.old }
     requires from { IsFloor grid.now from }
@@ -121,6 +128,6 @@ pub(crate) fn away_by(
     ensures away { IfOk result (λ distance. distance ≡ away grid.now from to) }
     ensures serves { OnOk result (Serves grid.now field.new) }
 {
-    aim(grid, field, to, from)?;
+    aim(grid, field, to, from, anew)?;
     steps_to(grid, field, from)
 }

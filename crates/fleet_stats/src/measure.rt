@@ -1,4 +1,5 @@
-//! The distances of errands. They are looked for goal by goal, so that errands to one goal share a search.
+//! The distances of errands. They are looked for goal by goal. A search toward one cell comes to few others, so the first
+//! errands to a goal have one each; those after them share one, which goes over the whole map at most.
 
 ghost use Rattle.std.specs.Prelude.{◌≡◌, ◌++◌, map, length, slice_index_or, None, IfOk, OnOk, All};
 ghost use Rattle.std.specs.List.{range_with_len};
@@ -15,6 +16,9 @@ use crate::tick::cell_at;
 use fleet_field::GrowingField;
 use fleet_grid::Grid;
 use std::alloc::{AllocError, Global};
+
+/// How many errands to a goal have a search of their own.
+const OWN: u64 = 8;
 
 /// A distance that was looked for.
 #[derive(Clone, Copy)]
@@ -55,12 +59,14 @@ fn by_goal(alloc: Global, goals: &[u32]) -> Result<Vec<u64>, AllocError>
     Ok(ordered(keys))
 }
 
-/// Looks for the distance of the errand at this place. After an error the field is of no use.
+/// Looks for the distance of the errand at this place, by a search of its own if it is to be anew. After an error the
+/// field is of no use.
 fn find_one(
     grid: &Grid,
     field: &mut GrowingField,
     served: &[Served],
     place: usize,
+    anew: bool,
     ways: &mut [Option<Way>],
 ) -> Result<(), AllocError>
     requires serves { Serves grid.now field.old }
@@ -71,7 +77,7 @@ fn find_one(
     if place < served.len() && place < ways.len() {
         let (from, to) = (served[place].done.leg.from, served[place].done.cell);
         if grid.is_floor(from) && grid.is_floor(to) {
-            let distance = away_by(grid, field, from, to)?;
+            let distance = away_by(grid, field, from, to, anew)?;
             ways[place] = Some(Way { from, to, distance });
         }
     }
@@ -90,8 +96,16 @@ fn find_all(
     requires ways { All (IsWay grid.now) ways.old }
     ensures ways { All (IsWay grid.now) ways.new }
 {
+    let (mut last, mut asked) = (u64::MAX, 0u64);
     for key in keys {
-        find_one(grid, field, served, (*key % 4_294_967_296) as usize, ways)?;
+        let (goal, place) = (*key / 4_294_967_296, *key % 4_294_967_296);
+        asked = if goal == last {
+            asked.saturating_add(1)
+        } else {
+            0
+        };
+        last = goal;
+        find_one(grid, field, served, place as usize, asked < OWN, ways)?;
     }
     Ok(())
 }
@@ -195,11 +209,7 @@ fn find_some(
 }
 
 /// What was found of the distances of errands.
-fn ways_of(
-    alloc: Global,
-    grid: &Grid,
-    served: &[Served],
-) -> Result<Vec<Option<Way>>, AllocError>
+fn ways_of(alloc: Global, grid: &Grid, served: &[Served]) -> Result<Vec<Option<Way>>, AllocError>
     ensures { IfOk result (λ ways. All (IsWay grid.now) ways.items) }
 {
     let mut ways = no_ways(alloc, served)?;

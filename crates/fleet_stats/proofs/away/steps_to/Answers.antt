@@ -17,8 +17,8 @@ pub loop-taken-preserved : goal.loop-taken-preserved
 loop-taken-preserved c =
     let m = c.args.grid.now in
     let step : IsStep m c.goal-goal.result c.loop-taken.cell (Some c.in-Some.next) =
-      subst (λ (o : Option ℕ). IsStep m c.goal-goal.result c.loop-taken.cell o) c.in-Some.is
-      (subst (λ (g : ℕ). IsStep m g c.loop-taken.cell c.in_ok-next.field-0) (c.loop-taken.invariant.aimed ∙ sym c.loop-taken.invariant.is) c.in_ok-next.ensures.step) in
+    subst (λ (o : Option ℕ). IsStep m c.goal-goal.result c.loop-taken.cell o) c.in-Some.is
+    (subst (λ (g : ℕ). IsStep m g c.loop-taken.cell c.in_ok-next.field-0) (c.loop-taken.invariant.aimed ∙ sym c.loop-taken.invariant.is) c.in_ok-next.ensures.step) in
     record {
       end = c.loop-taken.invariant.end;
       below = omega (arith, c.loop-taken-test.true);
@@ -33,5 +33,5 @@ pub returns-clause-steps : goal.returns-clause-steps
 returns-clause-steps c =
     let m = c.args.grid.now in
     let same : after c.loop-taken.taken (distance m c.loop-taken.cell (goal_of c.args.field.now)) ≡ distance m c.args.from (goal_of c.args.field.now) =
-      subst (λ (g : ℕ). after c.loop-taken.taken (distance m c.loop-taken.cell g) ≡ distance m c.args.from (goal_of c.args.field.now)) c.loop-taken.invariant.is c.loop-taken.invariant.same in
+    subst (λ (g : ℕ). after c.loop-taken.taken (distance m c.loop-taken.cell g) ≡ distance m c.args.from (goal_of c.args.field.now)) c.loop-taken.invariant.is c.loop-taken.invariant.same in
     no-more m (goal_of c.args.field.now) c.loop-taken.cell c.args.from c.loop-taken.taken c.requires.floor (omega (arith, c.loop-taken.invariant.end, c.loop-taken-test.false)) same
