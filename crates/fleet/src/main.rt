@@ -34,6 +34,7 @@ mod piped;
 mod recalling;
 mod recovering;
 mod sim;
+mod sim_texts;
 mod sites;
 mod stats;
 mod streams;

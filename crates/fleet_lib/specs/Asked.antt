@@ -147,6 +147,9 @@ pub record IsLive (rows : List Row) (live : LiveJob) : Type 0 where
 abbrev pub table_named : Text → Option Figures
 table_named word =
     if bytes_eq word (codes "errands") then Some figures.Errands
+    else if bytes_eq word (codes "unfinished") then Some figures.Unfinished
+    else if bytes_eq word (codes "robots") then Some figures.Robots
+    else if bytes_eq word (codes "clients") then Some figures.Clients
     else if bytes_eq word (codes "ticks") then Some figures.Ticks
     else if bytes_eq word (codes "cells") then Some figures.Cells
     else None
@@ -166,6 +169,7 @@ pub record IsStats (rows : List Row) (stats : StatsJob) : Type 0 where
   pub floor : first_of (codes "MAP") rows ≡ Some (string_bytes stats.map)
   pub traces : all_of (codes "TRACE") rows ≡ Some (map (λ s. string_bytes s) stats.traces.items)
   pub figures : stats.figures ≡ figures_in rows
+  pub warm_up : first_of (codes "warm-up") rows ≡ option_map (λ s. string_bytes s) stats.warm_up
 
 -- what the words after `judge` ask for
 pub record IsJudge (rows : List Row) (judge : JudgeJob) : Type 0 where
@@ -212,8 +216,11 @@ pub record IsSimJob (rows : List Row) (asked : SimJob) : Type 0 where
   pub warm_up : first_of (codes "warm-up") rows ≡ option_map (λ s. string_bytes s) asked.warm_up
   pub seeds : first_of (codes "seeds") rows ≡ option_map (λ s. string_bytes s) asked.seeds
   pub cells : first_of (codes "cells") rows ≡ option_map (λ s. string_bytes s) asked.cells
+  pub scenario : first_of (codes "scen") rows ≡ option_map (λ s. string_bytes s) asked.scenario
+  pub tasks : first_of (codes "tasks") rows ≡ option_map (λ s. string_bytes s) asked.tasks
   pub roomy : asked.roomy ≡ has_flag (codes "roomy") rows
   pub planner : first_of (codes "planner") rows ≡ option_map (λ s. string_bytes s) asked.planner
+  pub ties : first_of (codes "ties") rows ≡ option_map (λ s. string_bytes s) asked.ties
   pub traces : first_of (codes "traces") rows ≡ option_map (λ s. string_bytes s) asked.traces
   pub times : asked.times ≡ has_flag (codes "times") rows
   pub csv : asked.csv ≡ has_flag (codes "csv") rows
