@@ -34,6 +34,7 @@ mod piped;
 mod recalling;
 mod recovering;
 mod sim;
+mod site_folder;
 mod sites;
 mod stats;
 mod streams;

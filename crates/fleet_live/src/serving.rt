@@ -15,10 +15,15 @@ ghost use Rattle.fleet_live.specs.Taken.{noted};
 ghost use Rattle.fleet_live.specs.Told.{handed_at};
 ghost use Rattle.std.specs.declared.alloc.Global.{Global};
 
+use crate::changing::{SiteBook, change, refuse};
 use crate::desk::{Desk, Site, begin, party_of};
 use crate::ended::{cause, ended};
 use crate::keeping::keep;
-use fleet_talk::{ChapterSink, Door, TalkFault};
+use crate::refusal::Refusal;
+use crate::sites::Sites;
+use fleet_hooks::{ArrivalHook, Farewell, Hooks, TieHook};
+use fleet_talk::{ChapterSink, Door, MOST_ROBOTS, TalkFault};
+use fleet_text::HookKit;
 use fleet_world::Session;
 use live_parts::{Journal, LiveEnds, Recalls, Stop};
 use std::alloc::{Alloc, AllocError, Global};
@@ -93,32 +98,42 @@ fn live<
     Ok((desk, kept))
 }
 
-/// Lets the fleet hear its clients until it has ended, and all was told. Returns whether a limit was met.
-pub(crate) fn serve<
-    R: Alloc<A = Global> + Clock + Threads + Sync + Wait + Copy + Send + Drop + 'static,
-    I: Read + Send + Drop + 'static,
-    W: Write + Send + Drop + 'static,
-    P: Read + Send + Drop + 'static,
-    Q: Write + Send + Drop + 'static,
-    E: Write + Send + Drop + 'static,
-    S: ChapterSink + Send + Drop + 'static,
+/// Lets the fleet hear its clients until it has ended, or its site is to be changed.
+fn keep_desk<
+    R: Alloc<A = Global> + Clock + Threads + Sync + Wait,
+    S: ChapterSink + Drop,
     J: Journal + Drop,
 >(
     rt: &R,
-    session: Session,
-    door: Door,
+    desk: &mut Desk<S, J>,
+) -> Result<(), AllocError>
+    // Of each call: only a call with a condition may hand on closures.
+    requires number { 0 ≤ desk.old.party.fleet.session.world.core.number }
+{
+    keep(
+        rt,
+        &mut desk.party,
+        &mut desk.out,
+        &mut desk.events,
+        &mut desk.listeners,
+    )
+}
+
+/// Ends all threads of a fleet that has ended, or could not go on. Returns whether a limit was met.
+fn end<
+    R: Alloc<A = Global> + Clock + Threads + Sync + Wait,
+    S: ChapterSink + Drop,
+    J: Journal + Drop,
+>(
+    rt: &R,
+    desk: Desk<S, J>,
+    kept: Result<(), AllocError>,
     site: Site,
-    ends: LiveEnds<I, W, P, Q, E, S, J>,
 ) -> Result<bool, TalkFault>
-    requires number { 0 ≤ session.world.core.number }
-    requires door { AreRoomyFor session.world.core.floor door.roominess.items }
+    // Of each call: only a call with a condition may hand on closures.
+    requires number { 0 ≤ desk.party.fleet.session.world.core.number }
     ensures opened { IfErr result IsEnded }
 {
-    let mut session = session;
-    session.world.keep(kept_bytes(site.cells));
-    let Ok((desk, kept)) = live(rt, session, door, site, ends) else {
-        return Err(TalkFault::NoMemory);
-    };
     let Desk {
         party,
         out: _out,
@@ -138,4 +153,92 @@ pub(crate) fn serve<
         Err(AllocError) => listeners.why(),
     };
     ended(cause(stop, last, is_written), party.fleet.limited)
+}
+
+/// Lets the fleet go on: makes the changes for which the loop has ended, and then hears its clients again, until they
+/// have ended. Returns whether a limit was met.
+fn serve_on<
+    R: Alloc<A = Global> + Clock + Threads + Sync + Wait + Copy + Send + Drop + 'static,
+    S: ChapterSink + Send + Drop + 'static,
+    J: Journal + Drop,
+    T: Sites + Drop,
+>(
+    rt: &R,
+    desk: Desk<S, J>,
+    site: Site,
+    sites: T,
+) -> Result<bool, TalkFault>
+    requires number { 0 ≤ desk.party.fleet.session.world.core.number }
+    ensures opened { IfErr result IsEnded }
+{
+    let mut desk = desk;
+    let mut book = SiteBook::new(sites, site.settings);
+    for _ in rt.forever() {
+        let Some(wish) = desk.events.source.wish.take() else {
+            return end(rt, desk, Ok(()), site);
+        };
+        let alloc = rt.alloc();
+        let plain = Hooks::alike(
+            alloc,
+            MOST_ROBOTS,
+            TieHook::fixed([0; 4]),
+            ArrivalHook::fixed(0),
+            Farewell::fixed(0),
+        );
+        let south = Hooks::alike(
+            alloc,
+            MOST_ROBOTS,
+            TieHook::south_first(),
+            ArrivalHook::by_tick(),
+            Farewell::by_cell(),
+        );
+        let changed = match (plain, south) {
+            (Ok(plain), Ok(south)) => {
+                change(rt, &mut desk, HookKit { plain, south }, &wish, &mut book)
+            }
+            _ => refuse(alloc, &mut desk.party, &wish, Refusal::NoMemory),
+        };
+        let kept = match changed {
+            Ok(()) => keep_desk(rt, &mut desk),
+            Err(AllocError) => Err(AllocError),
+        };
+        if kept.is_err() {
+            return end(rt, desk, kept, site);
+        }
+    }
+    unreachable!()
+}
+
+/// Lets the fleet hear its clients until it has ended, and all was told. Returns whether a limit was met.
+pub(crate) fn serve<
+    R: Alloc<A = Global> + Clock + Threads + Sync + Wait + Copy + Send + Drop + 'static,
+    I: Read + Send + Drop + 'static,
+    W: Write + Send + Drop + 'static,
+    P: Read + Send + Drop + 'static,
+    Q: Write + Send + Drop + 'static,
+    E: Write + Send + Drop + 'static,
+    S: ChapterSink + Send + Drop + 'static,
+    J: Journal + Drop,
+    T: Sites + Drop,
+>(
+    rt: &R,
+    session: Session,
+    door: Door,
+    site: Site,
+    ends: LiveEnds<I, W, P, Q, E, S, J>,
+    sites: T,
+) -> Result<bool, TalkFault>
+    requires number { 0 ≤ session.world.core.number }
+    requires door { AreRoomyFor session.world.core.floor door.roominess.items }
+    ensures opened { IfErr result IsEnded }
+{
+    let mut session = session;
+    session.world.keep(kept_bytes(site.cells));
+    let Ok((desk, kept)) = live(rt, session, door, site, ends) else {
+        return Err(TalkFault::NoMemory);
+    };
+    match kept {
+        Ok(()) => serve_on(rt, desk, site, sites),
+        Err(AllocError) => end(rt, desk, Err(AllocError), site),
+    }
 }
