@@ -95,12 +95,7 @@ impl<R: Files + Alloc<A = Global> + Copy + Drop> Sites for SiteFolder<R> {
         self.last.take()
     }
 
-    fn keep(
-        &mut self,
-        record: &SiteRecord,
-        map: &str,
-        chapter: &Chapter,
-    ) -> Result<(), SinkFault> {
+    fn keep(&mut self, record: &SiteRecord, map: &str, chapter: &Chapter) -> Result<(), SinkFault> {
         let Some(folder) = &self.name else {
             return Ok(());
         };

@@ -14,9 +14,7 @@ use crate::talk::{TalkTexts, complain, grounds};
 use crate::words::{Live, VERSION};
 use fleet_grid::Grid;
 use fleet_history::Chapter;
-use fleet_live::{
-    Journal, LiveEnds, LiveSettings, Sites, keep_live, read_period, resume_live,
-};
+use fleet_live::{Journal, LiveEnds, LiveSettings, Sites, keep_live, read_period, resume_live};
 use fleet_map::text::number_up_to;
 use fleet_script::Head;
 use fleet_talk::{ChapterSink, Ground, MOST_ROBOTS, ResumeFault};

@@ -1,7 +1,15 @@
 //! How a fleet goes on on a changed site.
 
-ghost use Rattle.std.specs.Prelude.{◌≡◌, ◌≤◌, IfOk, OnOk, vec_len};
+ghost use Rattle.std.specs.Prelude.{◌≡◌, ◌≤◌, [], IfOk, OnOk, map, vec_len};
+ghost use Rattle.rtrb.specs.Ring.{sent};
 ghost use Rattle.fleet_bridge.specs.Roominess.{AreRoomyFor};
+ghost use Rattle.fleet_talk.specs.Chapters.{chapter_shown};
+ghost use Rattle.live_fleet.specs.Out.{out_of};
+ghost use Rattle.live_fleet.specs.Party.{door_shown};
+ghost use Rattle.live_fleet.specs.Went.{at_of};
+ghost use Rattle.fleet_live.specs.Going.{IsGoing};
+ghost use Rattle.fleet_live.specs.Logged.{log_view};
+ghost use Rattle.fleet_live.specs.Told.{ahead_at};
 
 use crate::desk::Desk;
 use crate::draft::{Draft, draft};
@@ -9,16 +17,17 @@ use crate::manner::planned_fleet;
 use crate::refusal::{Refusal, refusal_line, unkept, unplanned, unresumed};
 use crate::resuming::world_on;
 use crate::sites::Sites;
-use crate::telling::{News, answer_first, marked_text, news_of};
+use crate::telling::{News, add_texts, answer_first, make_room, marked_text, news_of};
 use crate::wish::Wish;
 use fleet_book::Limits;
+use fleet_grid::Grid;
 use fleet_history::Chapter;
 use fleet_script::{GivenLimits, Head};
 use fleet_site::SiteRecord;
 use fleet_talk::{Door, Ground, counted};
 use fleet_text::HookKit;
 use fleet_world::Session;
-use live_fleet::{Outboxes, Party};
+use live_fleet::{Outboxes, Party, Speaker};
 use live_parts::{ChapterSize, Journal, LiveSettings};
 use std::alloc::{Alloc, AllocError, Global};
 use std::mem;
@@ -111,93 +120,8 @@ fn untold(party: &Party) -> Option<u32>
     None
 }
 
-/// The changes of the site of a fleet whose clients were told everything, and what these are told of them.
-fn drafted(
-    alloc: Global,
-    party: &Party,
-    out: &Outboxes,
-    last: Option<&SiteRecord>,
-    wish: &Wish,
-) -> Result<(Draft, News), Refusal>
-    requires { 0 ≤ party.now.fleet.session.world.core.number }
-{
-    if let Some(client) = untold(party) {
-        return Err(Refusal::Untold(client));
-    }
-    let draft = draft(alloc, &party.fleet.session.world, last, wish)?;
-    let news = news_of(alloc, party, out, &draft, wish)?;
-    Ok((draft, news))
-}
-
-/// Lets a party go on with another fleet. What is known of its clients stays.
-fn go_over(party: &mut Party, session: Session, door: Door)
-    requires { 0 ≤ session.world.core.number }
-{
-    let before = mem::replace(&mut party.fleet.session, session);
-    let _left = before.finish();
-    party.door = door;
-}
-
-/// Lets the fleet go on with changes, once they are kept.
-fn take_over<S, J, T: Sites>(
-    alloc: Global,
-    desk: &mut Desk<S, J>,
-    kit: HookKit,
-    drafted: (Draft, News),
-    book: &mut SiteBook<T>,
-) -> Result<(), Refusal>
-    // Of each call: only a call with a condition may hand on closures that another crate hands out.
-    requires { 0 ≤ vec_len kit.plain.ties }
-{
-    let (draft, news) = drafted;
-    let Draft {
-        record,
-        grid,
-        map,
-        chapter,
-        moved: _moved,
-        numbers: _numbers,
-        dropped: _dropped,
-    } = draft;
-    let (robots, cells) = (counted(chapter.opening.robots.len()), grid.cell_count());
-    let size = ChapterSize::new(alloc, robots, desk.party.clients, cells)?;
-    let head = Head {
-        starts: None,
-        clients: None,
-        south: None,
-        turns: None,
-        limits: given(desk.party.fleet.session.world.core.limits()),
-    };
-    let (session, door) = next_fleet(alloc, Ground { grid, kit, head }, &chapter, book.settings)?;
-    match book.sites.keep(&record, map.as_str(), &chapter) {
-        Ok(()) => {}
-        Err(fault) => {
-            let _left = session.finish();
-            return Err(unkept(fault));
-        }
-    }
-    go_over(&mut desk.party, session, door);
-    book.last = Some(record);
-    desk.events.source.counts.size = size;
-    desk.out.texts = news.texts;
-    answer_first(&mut desk.party, news.answer);
-    Ok(())
-}
-
-/// Answers that changes are not made.
-pub(crate) fn refuse(
-    alloc: Global,
-    party: &mut Party,
-    wish: &Wish,
-    refusal: Refusal,
-) -> Result<(), AllocError> {
-    let line = refusal_line(alloc, refusal)?;
-    let answer = marked_text(alloc, &wish.mark, line.as_str())?;
-    answer_first(party, answer);
-    Ok(())
-}
-
-/// The changes that a line asks for, if all chapters are kept and clients were told everything.
+/// The changes that a line asks for, if all chapters are kept and clients were told everything; and what these are told
+/// of them.
 fn allowed<R: Alloc<A = Global> + Wait, S, J>(
     rt: &R,
     desk: &Desk<S, J>,
@@ -209,11 +133,120 @@ fn allowed<R: Alloc<A = Global> + Wait, S, J>(
     if desk.listeners.shelf.standing(rt).waiting > 0 {
         return Err(Refusal::Unkept);
     }
-    drafted(rt.alloc(), &desk.party, &desk.out, last, wish)
+    if let Some(client) = untold(&desk.party) {
+        return Err(Refusal::Untold(client));
+    }
+    let draft = draft(rt.alloc(), &desk.party.fleet.session.world, last, wish)?;
+    let news = news_of(rt.alloc(), &desk.party.speakers, &draft, wish)?;
+    Ok((draft, news))
+}
+
+/// The fleet that goes on with changes, and its door, if there is room for what is said of them.
+fn fleet_after(
+    alloc: Global,
+    party: &Party,
+    kit: HookKit,
+    grid: Grid,
+    chapter: &Chapter,
+    settings: LiveSettings,
+) -> Result<(Session, Door), Refusal>
+    // Of each call: only a call with a condition may hand on closures that another crate hands out.
+    requires { 0 ≤ vec_len kit.plain.ties }
+    ensures door { IfOk result (λ r. AreRoomyFor r.0.world.core.floor r.1.roominess.items) }
+{
+    let head = Head {
+        starts: None,
+        clients: None,
+        south: None,
+        turns: None,
+        limits: given(party.fleet.session.world.core.limits()),
+    };
+    next_fleet(alloc, Ground { grid, kit, head }, chapter, settings)
+}
+
+/// Makes room for what is said of changes, if no chapter waits. Returns about how long the chapter is that begins.
+fn room_for(
+    alloc: Global,
+    out: &mut Outboxes,
+    news: &News,
+    chapter: &Chapter,
+    cells: u32,
+) -> Result<ChapterSize, Refusal>
+    ensures out { out_of out.new ≡ out_of out.old }
+    ensures none { OnOk result ((out_of out.new).chapters ≡ []) }
+{
+    if !out.chapters.is_empty() {
+        return Err(Refusal::Unkept);
+    }
+    make_room(&mut out.texts, &news.said)?;
+    let (robots, clients) = (chapter.opening.robots.len(), chapter.opening.clients.len());
+    Ok(ChapterSize::new(alloc, counted(robots), counted(clients), cells)?)
+}
+
+/// Lets the fleet go on with changes, once they are kept. Where they are not, nothing changes.
+fn take_over<S, J: Journal, T: Sites>(
+    alloc: Global,
+    desk: &mut Desk<S, J>,
+    kit: HookKit,
+    drafted: (Draft, &News),
+    book: &mut SiteBook<T>,
+) -> Result<(), Refusal>
+    // Of each call: only a call with a condition may hand on closures that another crate hands out.
+    requires { 0 ≤ vec_len kit.plain.ties }
+    requires going { IsGoing (log_view J.logged desk.old.listeners.log.journal desk.old.listeners.log.number desk.old.listeners.log.entries) (ahead_at desk.old.listeners.texts.items)
+        (map chapter_shown (sent desk.old.listeners.chapters)) (at_of desk.old.party.fleet desk.old.out) (door_shown desk.old.party.door) }
+    ensures going { IsGoing (log_view J.logged desk.new.listeners.log.journal desk.new.listeners.log.number desk.new.listeners.log.entries) (ahead_at desk.new.listeners.texts.items)
+        (map chapter_shown (sent desk.new.listeners.chapters)) (at_of desk.new.party.fleet desk.new.out) (door_shown desk.new.party.door) }
+{
+    let (draft, news) = drafted;
+    let Draft {
+        record,
+        grid,
+        map,
+        chapter,
+        moved: _moved,
+        numbers: _numbers,
+        dropped: _dropped,
+    } = draft;
+    let size = match room_for(alloc, &mut desk.out, news, &chapter, grid.cell_count()) {
+        Ok(size) => size,
+        Err(refusal) => {
+            mem::drop(kit);
+            return Err(refusal);
+        }
+    };
+    let (session, door) = fleet_after(alloc, &desk.party, kit, grid, &chapter, book.settings)?;
+    match book.sites.keep(&record, map.as_str(), &chapter) {
+        Ok(()) => {}
+        Err(fault) => {
+            let _left = session.finish();
+            return Err(unkept(fault));
+        }
+    }
+    let before = mem::replace(&mut desk.party.fleet.session, session);
+    let _left = before.finish();
+    desk.party.door = door;
+    desk.listeners.log.entries = 0;
+    desk.events.source.counts.size = size;
+    book.last = Some(record);
+    Ok(())
+}
+
+/// Answers that changes are not made.
+pub(crate) fn refuse(
+    alloc: Global,
+    speakers: &mut [Speaker],
+    wish: &Wish,
+    refusal: Refusal,
+) -> Result<(), AllocError> {
+    let line = refusal_line(alloc, refusal)?;
+    let answer = marked_text(alloc, &wish.mark, line.as_str())?;
+    answer_first(speakers, answer);
+    Ok(())
 }
 
 /// Makes the changes that a line asks for, and answers. Where they are refused the fleet goes on as before.
-pub(crate) fn change<R: Alloc<A = Global> + Wait, S, J, T: Sites>(
+pub(crate) fn change<R: Alloc<A = Global> + Wait, S, J: Journal, T: Sites>(
     rt: &R,
     desk: &mut Desk<S, J>,
     kit: HookKit,
@@ -222,11 +255,19 @@ pub(crate) fn change<R: Alloc<A = Global> + Wait, S, J, T: Sites>(
 ) -> Result<(), AllocError>
     // Of each call: only a call with a condition may hand on closures that another crate hands out.
     requires { 0 ≤ vec_len kit.plain.ties }
+    requires going { IsGoing (log_view J.logged desk.old.listeners.log.journal desk.old.listeners.log.number desk.old.listeners.log.entries) (ahead_at desk.old.listeners.texts.items)
+        (map chapter_shown (sent desk.old.listeners.chapters)) (at_of desk.old.party.fleet desk.old.out) (door_shown desk.old.party.door) }
+    ensures going { OnOk result (IsGoing (log_view J.logged desk.new.listeners.log.journal desk.new.listeners.log.number desk.new.listeners.log.entries) (ahead_at desk.new.listeners.texts.items)
+        (map chapter_shown (sent desk.new.listeners.chapters)) (at_of desk.new.party.fleet desk.new.out) (door_shown desk.new.party.door)) }
 {
     let alloc = rt.alloc();
     let refusal = match allowed(rt, desk, book.last.as_ref(), wish) {
-        Ok(drafted) => match take_over(alloc, desk, kit, drafted, book) {
-            Ok(()) => return Ok(()),
+        Ok((draft, news)) => match take_over(alloc, desk, kit, (draft, &news), book) {
+            Ok(()) => {
+                add_texts(&mut desk.out.texts, &news.said)?;
+                answer_first(&mut desk.party.speakers, news.answer);
+                return Ok(());
+            }
             Err(refusal) => refusal,
         },
         Err(refusal) => {
@@ -234,5 +275,5 @@ pub(crate) fn change<R: Alloc<A = Global> + Wait, S, J, T: Sites>(
             refusal
         }
     };
-    refuse(alloc, &mut desk.party, wish, refusal)
+    refuse(alloc, &mut desk.party.speakers, wish, refusal)
 }

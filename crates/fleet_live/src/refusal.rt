@@ -81,8 +81,10 @@ pub(crate) fn unkept(fault: SinkFault) -> Refusal {
 /// The line that says it.
 pub(crate) fn refusal_line(alloc: Global, refusal: Refusal) -> Result<String, AllocError> {
     match refusal {
-        Refusal::Refit(RefitFault::NoMemory) | Refusal::NoMemory =>
-            String::from_str(alloc, "change-refused 20 no-memory\n"),
+        Refusal::Refit(RefitFault::NoMemory) | Refusal::NoMemory => String::from_str(
+            alloc,
+            "change-refused 20 no-memory\n",
+        ),
         Refusal::Refit(fault) => refused_line(alloc, fault),
         Refusal::Renumbered(robot) => {
             format!(in alloc; "change-refused 12 renumbered robot {robot}\n")

@@ -1,18 +1,21 @@
 //! How a fleet is kept that is open: its threads, the loop, and its end.
 
-ghost use Rattle.std.specs.Prelude.{◌≡◌, ◌≤◌, [], IfErr, IfOk, IfSome, List, OnOk, map, option_map, vec_len};
+ghost use Rattle.std.specs.Prelude.{◌≡◌, ◌≤◌, ◌++◌, [], IfErr, IfOk, IfSome, List, OnOk, map, option_map, vec_len};
 ghost use Rattle.rtrb.specs.Ring.{sent};
 ghost use Rattle.fleet_bridge.specs.Roominess.{AreRoomyFor};
 ghost use Rattle.fleet_talk.specs.Chapters.{ChapterView, chapter_shown};
 ghost use Rattle.fleet_world.specs.Keeps.{talk};
 ghost use Rattle.live_parts.specs.Recalls.{Recalls};
-ghost use Rattle.live_fleet.specs.Party.{door_shown, stage_of};
+ghost use Rattle.live_fleet.specs.Party.{Heard, door_shown, stage_of};
 ghost use Rattle.live_fleet.specs.Recalling.{AreBegun};
+ghost use Rattle.live_fleet.specs.Went.{at_of};
 ghost use Rattle.fleet_live.specs.Begin.{Serves, first_stage, speakers_at};
 ghost use Rattle.fleet_live.specs.Ended.{IsEnded};
+ghost use Rattle.fleet_live.specs.Going.{IsGoing};
 ghost use Rattle.fleet_live.specs.Logged.{IsToldLogged, log_view};
 ghost use Rattle.fleet_live.specs.Taken.{noted};
-ghost use Rattle.fleet_live.specs.Told.{handed_at};
+ghost use Rattle.fleet_live.specs.Loop.{Keeps};
+ghost use Rattle.fleet_live.specs.Told.{ahead_at, handed_at};
 ghost use Rattle.std.specs.declared.alloc.Global.{Global};
 
 use crate::changing::{SiteBook, change, refuse};
@@ -74,6 +77,9 @@ fn live<
     ensures logged { IfOk result (λ r. OnOk r.1 ((before : List (ChapterView Global)) → IfSome (option_map J.logged ends.journal) (λ logged. logged ≡ before) → (recalls : Recalls) × AreBegun session.world.core.history ends.recalls recalls
         × IsToldLogged (first_stage (talk session) recalls (door_shown door) (speakers_at site.settings (vec_len ends.pipes) session.world.core.history)) (map noted r.0.events.taken.items) (handed_at r.0.listeners.texts.items) before
         (log_view J.logged r.0.listeners.log.journal r.0.listeners.log.number r.0.listeners.log.entries))) }
+    // It may go on, on another site too.
+    ensures going { IfOk result (λ r. OnOk r.1 (IsGoing (log_view J.logged r.0.listeners.log.journal r.0.listeners.log.number r.0.listeners.log.entries) (ahead_at r.0.listeners.texts.items)
+        (map chapter_shown (sent r.0.listeners.chapters)) (at_of r.0.party.fleet r.0.out) (door_shown r.0.party.door))) }
 {
     let (pipes, settings) = (ends.pipes.len(), site.settings);
     let mut ends = ends;
@@ -103,12 +109,17 @@ fn keep_desk<
     R: Alloc<A = Global> + Clock + Threads + Sync + Wait,
     S: ChapterSink + Drop,
     J: Journal + Drop,
->(
-    rt: &R,
-    desk: &mut Desk<S, J>,
-) -> Result<(), AllocError>
+>(rt: &R, desk: &mut Desk<S, J>) -> Result<(), AllocError>
     // Of each call: only a call with a condition may hand on closures.
     requires number { 0 ≤ desk.old.party.fleet.session.world.core.number }
+    requires going { IsGoing (log_view J.logged desk.old.listeners.log.journal desk.old.listeners.log.number desk.old.listeners.log.entries) (ahead_at desk.old.listeners.texts.items)
+        (map chapter_shown (sent desk.old.listeners.chapters)) (at_of desk.old.party.fleet desk.old.out) (door_shown desk.old.party.door) }
+    // What each conversation was told since is the text of a core run of the events that were taken since, and so are the chapters.
+    ensures kept { OnOk result ((heard : List Heard) × (map noted desk.new.events.taken.items ≡ map noted desk.old.events.taken.items ++ heard)
+        × Keeps (stage_of desk.old.party desk.old.out) (stage_of desk.new.party desk.new.out) heard (handed_at desk.old.listeners.texts.items) (handed_at desk.new.listeners.texts.items)
+        (ahead_at desk.old.listeners.texts.items) (ahead_at desk.new.listeners.texts.items) (map chapter_shown (sent desk.old.listeners.chapters)) (map chapter_shown (sent desk.new.listeners.chapters))) }
+    ensures going { OnOk result (IsGoing (log_view J.logged desk.new.listeners.log.journal desk.new.listeners.log.number desk.new.listeners.log.entries) (ahead_at desk.new.listeners.texts.items)
+        (map chapter_shown (sent desk.new.listeners.chapters)) (at_of desk.new.party.fleet desk.new.out) (door_shown desk.new.party.door)) }
 {
     keep(
         rt,
@@ -124,12 +135,7 @@ fn end<
     R: Alloc<A = Global> + Clock + Threads + Sync + Wait,
     S: ChapterSink + Drop,
     J: Journal + Drop,
->(
-    rt: &R,
-    desk: Desk<S, J>,
-    kept: Result<(), AllocError>,
-    site: Site,
-) -> Result<bool, TalkFault>
+>(rt: &R, desk: Desk<S, J>, kept: Result<(), AllocError>, site: Site) -> Result<bool, TalkFault>
     // Of each call: only a call with a condition may hand on closures.
     requires number { 0 ≤ desk.party.fleet.session.world.core.number }
     ensures opened { IfErr result IsEnded }
@@ -162,13 +168,10 @@ fn serve_on<
     S: ChapterSink + Send + Drop + 'static,
     J: Journal + Drop,
     T: Sites + Drop,
->(
-    rt: &R,
-    desk: Desk<S, J>,
-    site: Site,
-    sites: T,
-) -> Result<bool, TalkFault>
+>(rt: &R, desk: Desk<S, J>, site: Site, sites: T) -> Result<bool, TalkFault>
     requires number { 0 ≤ desk.party.fleet.session.world.core.number }
+    requires going { IsGoing (log_view J.logged desk.listeners.log.journal desk.listeners.log.number desk.listeners.log.entries) (ahead_at desk.listeners.texts.items)
+        (map chapter_shown (sent desk.listeners.chapters)) (at_of desk.party.fleet desk.out) (door_shown desk.party.door) }
     ensures opened { IfErr result IsEnded }
 {
     let mut desk = desk;
@@ -196,7 +199,7 @@ fn serve_on<
             (Ok(plain), Ok(south)) => {
                 change(rt, &mut desk, HookKit { plain, south }, &wish, &mut book)
             }
-            _ => refuse(alloc, &mut desk.party, &wish, Refusal::NoMemory),
+            _ => refuse(alloc, &mut desk.party.speakers, &wish, Refusal::NoMemory),
         };
         let kept = match changed {
             Ok(()) => keep_desk(rt, &mut desk),

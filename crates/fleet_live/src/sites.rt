@@ -11,10 +11,5 @@ pub trait Sites {
 
     /// Keeps changes: their record, the text of the map on which the fleet goes on, and the chapter that begins with
     /// them, which has no entry. After a fault none of them is kept.
-    fn keep(
-        &mut self,
-        record: &SiteRecord,
-        map: &str,
-        chapter: &Chapter,
-    ) -> Result<(), SinkFault>;
+    fn keep(&mut self, record: &SiteRecord, map: &str, chapter: &Chapter) -> Result<(), SinkFault>;
 }

@@ -1,17 +1,20 @@
 //! What conversations are told of changes.
 
+ghost use Rattle.std.specs.Prelude.{◌≡◌, OnOk, map, string_bytes};
+ghost use Rattle.fleet_live.specs.Going.{AreAdded};
+
 use crate::draft::Draft;
 use crate::wish::Wish;
 use fleet_site::{changed_line, push_dropped, push_numbers};
 use fleet_talk::add_marked;
-use live_fleet::{Outboxes, Party, Rest, Speaker};
+use live_fleet::{Rest, Speaker};
 use std::alloc::{AllocError, Global};
 
-/// What conversations are told of changes that were made: by conversation the text that then waits for it, and the
-/// answer to the line that asked for them.
+/// What conversations are told of changes that were made, by conversation, and the answer to the line that asked for
+/// them.
 #[derive(Drop)]
 pub(crate) struct News {
-    pub(crate) texts: Vec<Vec<u8>>,
+    pub(crate) said: Vec<String>,
     pub(crate) answer: Vec<u8>,
 }
 
@@ -30,65 +33,65 @@ pub(crate) fn marked_text(
     Ok(line)
 }
 
-/// Adds what a conversation is told: the errands of its clients that are dropped, and then the robots that get other
-/// numbers.
-fn push_told(text: &mut String, speaker: &Speaker, draft: &Draft) -> Result<(), AllocError> {
+/// What a conversation is told: the errands of its clients that are dropped, and then the robots that get other numbers.
+fn told_to(alloc: Global, speaker: &Speaker, draft: &Draft) -> Result<String, AllocError> {
+    let mut text = String::new(alloc);
     for one in &draft.dropped {
         if speaker.clients.has(one.client) {
-            push_dropped(text, *one)?;
+            push_dropped(&mut text, *one)?;
         }
     }
-    push_numbers(text, &draft.moved, &draft.numbers)
-}
-
-/// The text that waits for a conversation once it was told.
-fn text_after(
-    alloc: Global,
-    waits: &[u8],
-    speaker: &Speaker,
-    draft: &Draft,
-) -> Result<Vec<u8>, AllocError> {
-    let mut told = String::new(alloc);
-    push_told(&mut told, speaker, draft)?;
-    let mut text = Vec::from_slice(alloc, waits)?;
-    text.extend_from_slice(told.as_bytes())?;
+    push_numbers(&mut text, &draft.moved, &draft.numbers)?;
     Ok(text)
-}
-
-/// The texts that wait for all conversations once they were told.
-fn texts_after(
-    alloc: Global,
-    party: &Party,
-    out: &Outboxes,
-    draft: &Draft,
-) -> Result<Vec<Vec<u8>>, AllocError> {
-    let mut texts = Vec::with_capacity(alloc, out.texts.len())?;
-    for to in 0..out.texts.len() {
-        match party.speakers.get(to) {
-            Some(speaker) => texts.push(text_after(alloc, &out.texts[to], speaker, draft)?)?,
-            None => texts.push(Vec::from_slice(alloc, &out.texts[to])?)?,
-        }
-    }
-    Ok(texts)
 }
 
 /// What conversations are told of changes.
 pub(crate) fn news_of(
     alloc: Global,
-    party: &Party,
-    out: &Outboxes,
+    speakers: &[Speaker],
     draft: &Draft,
     wish: &Wish,
 ) -> Result<News, AllocError> {
-    let texts = texts_after(alloc, party, out, draft)?;
+    let mut said = Vec::with_capacity(alloc, speakers.len())?;
+    for to in 0..speakers.len() {
+        said.push(told_to(alloc, &speakers[to], draft)?)?;
+    }
     let line = changed_line(alloc, wish.changes.len(), draft.dropped.len())?;
     let answer = marked_text(alloc, &wish.mark, line.as_str())?;
-    Ok(News { texts, answer })
+    Ok(News { said, answer })
+}
+
+/// Makes room for what is said to conversations.
+pub(crate) fn make_room(texts: &mut [Vec<u8>], said: &[String]) -> Result<(), AllocError>
+    ensures { map (λ t. t.items) texts.new ≡ map (λ t. t.items) texts.old }
+{
+    let Some((text, others)) = texts.split_first_mut() else {
+        return Ok(());
+    };
+    let Some((one, more)) = said.split_first() else {
+        return Ok(());
+    };
+    text.reserve(one.len())?;
+    make_room(others, more)
+}
+
+/// Says this to conversations.
+pub(crate) fn add_texts(texts: &mut [Vec<u8>], said: &[String]) -> Result<(), AllocError>
+    ensures { OnOk result (AreAdded (map (λ t. t.items) texts.old) (map string_bytes said.now) (map (λ t. t.items) texts.new)) }
+{
+    let Some((text, others)) = texts.split_first_mut() else {
+        return Ok(());
+    };
+    let Some((one, more)) = said.split_first() else {
+        return Ok(());
+    };
+    text.extend_from_slice(one.as_bytes())?;
+    add_texts(others, more)
 }
 
 /// Counts the first conversation's line, and lets its answer wait.
-pub(crate) fn answer_first(party: &mut Party, line: Vec<u8>) {
-    if let Some(speaker) = party.speakers.first_mut() {
+pub(crate) fn answer_first(speakers: &mut [Speaker], line: Vec<u8>) {
+    if let Some(speaker) = speakers.first_mut() {
         speaker.lines = speaker.lines.saturating_add(1);
         speaker.rest = Rest::Line(line);
     }

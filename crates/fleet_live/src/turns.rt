@@ -77,6 +77,9 @@ impl Source {
         party: &Party,
         line: &mut Vec<u8>,
     ) -> Result<Option<Asked>, AllocError> {
+        if self.wish.is_some() {
+            return Ok(None);
+        }
         // Before a look at the ring: if the reader has ended, all its lines are there.
         let ended = self.end_of_first(rt);
         self.first_tick = party.fleet.session.world.clock();

@@ -55,11 +55,7 @@ pub fn first_renumbered(moved: &[u32], numbers: &[u32]) -> Option<u32> {
 }
 
 /// Adds a line for each robot that gets another number.
-pub fn push_numbers(
-    text: &mut String,
-    moved: &[u32],
-    numbers: &[u32],
-) -> Result<(), AllocError> {
+pub fn push_numbers(text: &mut String, moved: &[u32], numbers: &[u32]) -> Result<(), AllocError> {
     for place in 0..numbers.len() {
         let robot = numbers[place];
         if is_renumbered(moved, robot, place) {

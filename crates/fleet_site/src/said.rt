@@ -27,11 +27,7 @@ pub fn push_renumbered(text: &mut String, robot: u32, live: usize) -> Result<(),
 }
 
 /// The line of how many changes were made, and how many errands were dropped.
-pub fn changed_line(
-    alloc: Global,
-    changes: usize,
-    dropped: usize,
-) -> Result<String, AllocError>
+pub fn changed_line(alloc: Global, changes: usize, dropped: usize) -> Result<String, AllocError>
     ensures { IfOk result (λ line. string_bytes line ≡ changed_line changes dropped) }
 {
     format!(in alloc; "changed {changes} dropped {dropped}\n")
