@@ -192,7 +192,7 @@ fn take_over<S, J: Journal, T: Sites>(
     book: &mut SiteBook<T>,
 ) -> Result<(), Refusal>
     // Of each call: only a call with a condition may hand on closures that another crate hands out.
-    requires { 0 ≤ vec_len kit.plain.ties }
+    requires hooks { 0 ≤ vec_len kit.plain.ties }
     requires going { IsGoing (log_view J.logged desk.old.listeners.log.journal desk.old.listeners.log.number desk.old.listeners.log.entries) (ahead_at desk.old.listeners.texts.items)
         (map chapter_shown (sent desk.old.listeners.chapters)) (at_of desk.old.party.fleet desk.old.out) (door_shown desk.old.party.door) }
     ensures going { IsGoing (log_view J.logged desk.new.listeners.log.journal desk.new.listeners.log.number desk.new.listeners.log.entries) (ahead_at desk.new.listeners.texts.items)
@@ -254,7 +254,7 @@ pub(crate) fn change<R: Alloc<A = Global> + Wait, S, J: Journal, T: Sites>(
     book: &mut SiteBook<T>,
 ) -> Result<(), AllocError>
     // Of each call: only a call with a condition may hand on closures that another crate hands out.
-    requires { 0 ≤ vec_len kit.plain.ties }
+    requires hooks { 0 ≤ vec_len kit.plain.ties }
     requires going { IsGoing (log_view J.logged desk.old.listeners.log.journal desk.old.listeners.log.number desk.old.listeners.log.entries) (ahead_at desk.old.listeners.texts.items)
         (map chapter_shown (sent desk.old.listeners.chapters)) (at_of desk.old.party.fleet desk.old.out) (door_shown desk.old.party.door) }
     ensures going { OnOk result (IsGoing (log_view J.logged desk.new.listeners.log.journal desk.new.listeners.log.number desk.new.listeners.log.entries) (ahead_at desk.new.listeners.texts.items)
