@@ -24,6 +24,7 @@ use crate::ended::{cause, ended};
 use crate::keeping::keep;
 use crate::refusal::Refusal;
 use crate::sites::Sites;
+use crate::wish::Wish;
 use fleet_hooks::{ArrivalHook, Farewell, Hooks, TieHook};
 use fleet_talk::{ChapterSink, Door, MOST_ROBOTS, TalkFault};
 use fleet_text::HookKit;
@@ -130,6 +131,51 @@ fn keep_desk<
     )
 }
 
+/// Makes the changes that a line asks for, and lets the fleet hear its clients again.
+fn change_on<
+    R: Alloc<A = Global> + Clock + Threads + Sync + Wait,
+    S: ChapterSink + Drop,
+    J: Journal + Drop,
+    T: Sites,
+>(
+    rt: &R,
+    desk: &mut Desk<S, J>,
+    kit: HookKit,
+    wish: &Wish,
+    book: &mut SiteBook<T>,
+) -> Result<(), AllocError>
+    // Of each call: only a call with a condition may hand on closures.
+    requires hooks { 0 ≤ vec_len kit.plain.ties }
+    requires going { IsGoing (log_view J.logged desk.old.listeners.log.journal desk.old.listeners.log.number desk.old.listeners.log.entries) (ahead_at desk.old.listeners.texts.items)
+        (map chapter_shown (sent desk.old.listeners.chapters)) (at_of desk.old.party.fleet desk.old.out) (door_shown desk.old.party.door) }
+    ensures going { OnOk result (IsGoing (log_view J.logged desk.new.listeners.log.journal desk.new.listeners.log.number desk.new.listeners.log.entries) (ahead_at desk.new.listeners.texts.items)
+        (map chapter_shown (sent desk.new.listeners.chapters)) (at_of desk.new.party.fleet desk.new.out) (door_shown desk.new.party.door)) }
+{
+    change(rt, desk, kit, wish, book)?;
+    keep_desk(rt, desk)
+}
+
+/// Answers that there is no memory for changes, and lets the fleet hear its clients again.
+fn refuse_on<
+    R: Alloc<A = Global> + Clock + Threads + Sync + Wait,
+    S: ChapterSink + Drop,
+    J: Journal + Drop,
+>(rt: &R, desk: &mut Desk<S, J>, wish: &Wish) -> Result<(), AllocError>
+    // Of each call: only a call with a condition may hand on closures.
+    requires going { IsGoing (log_view J.logged desk.old.listeners.log.journal desk.old.listeners.log.number desk.old.listeners.log.entries) (ahead_at desk.old.listeners.texts.items)
+        (map chapter_shown (sent desk.old.listeners.chapters)) (at_of desk.old.party.fleet desk.old.out) (door_shown desk.old.party.door) }
+    ensures going { OnOk result (IsGoing (log_view J.logged desk.new.listeners.log.journal desk.new.listeners.log.number desk.new.listeners.log.entries) (ahead_at desk.new.listeners.texts.items)
+        (map chapter_shown (sent desk.new.listeners.chapters)) (at_of desk.new.party.fleet desk.new.out) (door_shown desk.new.party.door)) }
+{
+    refuse(
+        rt.alloc(),
+        &mut desk.party.speakers,
+        wish,
+        Refusal::NoMemory,
+    )?;
+    keep_desk(rt, desk)
+}
+
 /// Ends all threads of a fleet that has ended, or could not go on. Returns whether a limit was met.
 fn end<
     R: Alloc<A = Global> + Clock + Threads + Sync + Wait,
@@ -180,34 +226,34 @@ fn serve_on<
         let Some(wish) = desk.events.source.wish.take() else {
             return end(rt, desk, Ok(()), site);
         };
-        let alloc = rt.alloc();
         let plain = Hooks::alike(
-            alloc,
+            rt.alloc(),
             MOST_ROBOTS,
             TieHook::fixed([0; 4]),
             ArrivalHook::fixed(0),
             Farewell::fixed(0),
         );
-        let south = Hooks::alike(
-            alloc,
-            MOST_ROBOTS,
-            TieHook::south_first(),
-            ArrivalHook::by_tick(),
-            Farewell::by_cell(),
-        );
-        let changed = match (plain, south) {
-            (Ok(plain), Ok(south)) => {
-                change(rt, &mut desk, HookKit { plain, south }, &wish, &mut book)
-            }
-            _ => refuse(alloc, &mut desk.party.speakers, &wish, Refusal::NoMemory),
+        let kept = match plain {
+            Ok(plain) => match Hooks::alike(
+                rt.alloc(),
+                MOST_ROBOTS,
+                TieHook::south_first(),
+                ArrivalHook::by_tick(),
+                Farewell::by_cell(),
+            ) {
+                Ok(south) => {
+                    change_on(rt, &mut desk, HookKit { plain, south }, &wish, &mut book)
+                }
+                Err(AllocError) => {
+                    mem::drop(plain);
+                    refuse_on(rt, &mut desk, &wish)
+                }
+            },
+            Err(AllocError) => refuse_on(rt, &mut desk, &wish),
         };
-        let kept = match changed {
-            Ok(()) => keep_desk(rt, &mut desk),
-            Err(AllocError) => Err(AllocError),
+        let Ok(()) = kept else {
+            return end(rt, desk, Err(AllocError), site);
         };
-        if kept.is_err() {
-            return end(rt, desk, kept, site);
-        }
     }
     unreachable!()
 }

@@ -1,6 +1,6 @@
 //! A line that asks for changes.
 
-ghost use Rattle.std.specs.Prelude.{◌≡◌, IfNone, IfOk, IfSome, IsTrue, ◌↔◌, option_map};
+ghost use Rattle.std.specs.Prelude.{◌≡◌, IfNone, IfOk, IfSome, map, option_map};
 ghost use Rattle.fleet_site.specs.Asked.{IsChangeLine, changes_said, parts_of};
 
 use crate::line::change_said;
@@ -17,6 +17,31 @@ pub struct ChangeLine<'a> {
     pub changes: &'a [u8],
 }
 
+/// The texts between `;`.
+fn parts_in(alloc: Global, text: &[u8]) -> Result<Vec<&[u8]>, AllocError>
+    ensures { IfOk result (λ parts. map (λ x. x.now) parts.items ≡ parts_of text.now) }
+{
+    text.split(|byte| *byte == b';').collect(alloc)
+}
+
+/// The changes that these texts say, if each says one.
+fn said_by(
+    alloc: Global,
+    parts: &[&[u8]],
+    laws: (StampLaw, StampLaw),
+) -> Result<Option<Vec<Change>>, AllocError>
+    ensures { IfOk result (λ found. option_map (λ cs. cs.items) found ≡ changes_said laws (map (λ x. x.now) parts.now)) }
+{
+    let mut changes = Vec::new(alloc);
+    for at in 0..parts.len() {
+        match change_said(parts[at], laws) {
+            Some(change) => changes.push(change)?,
+            None => return Ok(None),
+        }
+    }
+    Ok(Some(changes))
+}
+
 /// The changes that a text says, those between `;` one after the other; none if one of them says no change. Robots that
 /// join get these laws, of arrivals and of farewells.
 pub fn changes_said(
@@ -26,14 +51,8 @@ pub fn changes_said(
 ) -> Result<Option<Vec<Change>>, AllocError>
     ensures { IfOk result (λ found. option_map (λ cs. cs.items) found ≡ changes_said laws (parts_of text.now)) }
 {
-    let mut changes = Vec::new(alloc);
-    for part in text.split(|byte| *byte == b';') {
-        match change_said(part, laws) {
-            Some(change) => changes.push(change)?,
-            None => return Ok(None),
-        }
-    }
-    Ok(Some(changes))
+    let parts = parts_in(alloc, text)?;
+    said_by(alloc, &parts, laws)
 }
 
 /// What a line asks that begins with `change` and a blank; `renumber` and a blank may follow. What comes after is not
