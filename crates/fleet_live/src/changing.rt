@@ -12,7 +12,7 @@ ghost use Rattle.fleet_live.specs.Logged.{log_view};
 ghost use Rattle.fleet_live.specs.Told.{ahead_at};
 
 use crate::desk::Desk;
-use crate::draft::{Draft, draft};
+use crate::draft::{Draft, changes_of};
 use crate::manner::planned_fleet;
 use crate::refusal::{Refusal, refusal_line, unkept, unplanned, unresumed};
 use crate::resuming::world_on;
@@ -136,7 +136,7 @@ fn allowed<R: Alloc<A = Global> + Wait, S, J>(
     if let Some(client) = untold(&desk.party) {
         return Err(Refusal::Untold(client));
     }
-    let draft = draft(rt.alloc(), &desk.party.fleet.session.world, last, wish)?;
+    let draft = changes_of(rt.alloc(), &desk.party.fleet.session.world, last, wish)?;
     let news = news_of(rt.alloc(), &desk.party.speakers, &draft, wish)?;
     Ok((draft, news))
 }

@@ -95,7 +95,7 @@ fn made_of(
 }
 
 /// Makes the changes of the site of a world whose chapter has no entry.
-pub(crate) fn draft(
+pub(crate) fn changes_of(
     alloc: Global,
     world: &World,
     before: Option<&SiteRecord>,

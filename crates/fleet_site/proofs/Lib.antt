@@ -1,4 +1,4 @@
-pub mod Asked
+pub mod Joined
 pub mod Lists
 pub mod Opened
 pub mod Replayed
