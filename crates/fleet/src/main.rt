@@ -35,6 +35,7 @@ mod recalling;
 mod recovering;
 mod sim;
 mod sim_texts;
+mod site_folder;
 mod sites;
 mod stats;
 mod streams;

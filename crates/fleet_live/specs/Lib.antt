@@ -2,6 +2,7 @@ pub mod Batch
 pub mod Begin
 pub mod Counts
 pub mod Ended
+pub mod Going
 pub mod Logged
 pub mod Loop
 pub mod Pace

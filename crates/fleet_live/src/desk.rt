@@ -110,6 +110,7 @@ fn source_of<R: Alloc<A = Global> + Clock>(
         unkept: 0,
         stop: None,
         left_at: None,
+        wish: None,
     })
 }
 

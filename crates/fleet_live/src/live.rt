@@ -14,6 +14,7 @@ use crate::ended::unopened;
 use crate::manner::planned_fleet;
 use crate::opening::Opening;
 use crate::serving::serve;
+use crate::sites::Sites;
 use fleet_core::OpenFault;
 use fleet_script::Head;
 use fleet_talk::{ChapterSink, Door, Ground, TALK_LIMITS, TalkFault, counted, door_for};
@@ -45,12 +46,14 @@ pub(crate) fn serve_planned<
     E: Write + Send + Drop + 'static,
     S: ChapterSink + Send + Drop + 'static,
     J: Journal + Drop,
+    T: Sites + Drop,
 >(
     rt: &R,
     session: Session,
     door: Door,
     site: Site,
     ends: LiveEnds<I, W, P, Q, E, S, J>,
+    sites: T,
 ) -> Result<bool, TalkFault>
     requires number { 0 ≤ session.world.core.number }
     requires fresh { IsFresh session.world.core }
@@ -61,7 +64,7 @@ pub(crate) fn serve_planned<
         Ok((session, door)) => {
             let mut ends = ends;
             ends.sink.opened(&door);
-            serve(rt, session, door, site, ends)
+            serve(rt, session, door, site, ends, sites)
         }
         Err(fault) => Err(fault),
     }
@@ -77,12 +80,14 @@ fn keep_fleet<
     E: Write + Send + Drop + 'static,
     S: ChapterSink + Send + Drop + 'static,
     J: Journal + Drop,
+    T: Sites + Drop,
 >(
     rt: &R,
     opening: Opening,
     settings: LiveSettings,
     door: Door,
     ends: LiveEnds<I, W, P, Q, E, S, J>,
+    sites: T,
 ) -> Result<bool, TalkFault>
     // Of each call: only a call with a condition may hand on closures.
     requires hooks { 0 ≤ vec_len opening.hooks.ties }
@@ -102,7 +107,7 @@ fn keep_fleet<
         Ok(session) => session,
         Err(fault) => return Err(unopened(fault)),
     };
-    serve_planned(rt, session, door, Site { settings, cells }, ends)
+    serve_planned(rt, session, door, Site { settings, cells }, ends, sites)
 }
 
 /// Keeps the fleet that the head names, with this door.
@@ -115,12 +120,14 @@ fn keep_ground<
     E: Write + Send + Drop + 'static,
     S: ChapterSink + Send + Drop + 'static,
     J: Journal + Drop,
+    T: Sites + Drop,
 >(
     rt: &R,
     ground: Ground,
     settings: LiveSettings,
     door: Door,
     ends: LiveEnds<I, W, P, Q, E, S, J>,
+    sites: T,
 ) -> Result<bool, TalkFault>
     // Of each call: only a call with a condition may hand on closures.
     requires hooks { 0 ≤ vec_len ground.kit.plain.ties }
@@ -135,7 +142,7 @@ fn keep_ground<
     let hooks = kit.choose(head.south.unwrap_or(false)).cut(starts.len());
     let limits = head.limits.limits_over(TALK_LIMITS);
     let opening = Opening::of(head.clients.unwrap_or(1), limits, grid, starts, hooks);
-    keep_fleet(rt, opening, settings, door, ends)
+    keep_fleet(rt, opening, settings, door, ends, sites)
 }
 
 /// Keeps a fleet in real time: opens one with the head's robots and clients, lets each conversation post, look and be
@@ -153,11 +160,13 @@ pub fn keep_live<
     E: Write + Send + Drop + 'static,
     S: ChapterSink + Send + Drop + 'static,
     J: Journal + Drop,
+    T: Sites + Drop,
 >(
     rt: &R,
     ground: Ground,
     settings: LiveSettings,
     ends: LiveEnds<I, W, P, Q, E, S, J>,
+    sites: T,
 ) -> Result<bool, TalkFault>
     // Of each call: only a call with a condition may hand on closures.
     requires { 0 ≤ vec_len ground.kit.plain.ties }
@@ -168,7 +177,7 @@ pub fn keep_live<
 {
     let robots = robots_in(&ground.head);
     match door_for(rt.alloc(), settings.roomy, &ground.grid, robots) {
-        Ok(door) => keep_ground(rt, ground, settings, door, ends),
+        Ok(door) => keep_ground(rt, ground, settings, door, ends, sites),
         Err(AllocError) => {
             mem::drop(ground.kit);
             Err(TalkFault::NoMemory)
