@@ -1,6 +1,7 @@
 //! Vehicles set out, with the turns that are known.
 
-ghost use Rattle.std.specs.Prelude.{◌≡◌, [], Ok, true, IfOk, IfSome, map};
+ghost use Rattle.std.specs.Prelude.{◌≡◌, ◌<◌, [], Ok, None, true, IfOk, IfSome, map};
+ghost use Rattle.fleet_execution.specs.Checked.{IsPlacement};
 ghost use Rattle.fleet_execution.specs.Course.{Course, course_at};
 ghost use Rattle.live_vehicles.specs.Follows.{Follows};
 ghost use Rattle.live_vehicles.specs.Opened.{with_steps};
@@ -37,6 +38,7 @@ fn places_of(alloc: Global, cells: &[u32]) -> Result<Vec<Place>, AllocError>
 /// Vehicles that set out from a placement. `None` if it is none, or no turn may be made ahead.
 pub fn open(alloc: Global, rules: Rules, placement: &[u32]) -> Result<Option<Vehicles>, AllocError>
     ensures opened { IfOk result (λ found. IfSome found (λ v. Follows v (course_at rules.clearance placement.now))) }
+    ensures refused { result ≡ Ok None → 0 < rules.ahead → IsPlacement rules.cells placement.now → ⊥ }
     ensures first { IfOk result (λ found. IfSome found (λ v. v.first ≡ rules.first)) }
     ensures none { IfOk result (λ found. IfSome found (λ v. v.waits.items ≡ [])) }
 {
