@@ -26,6 +26,7 @@ use Rattle.fleet_lib.specs.declared.words.stats.Stats.{Stats as StatsJob}
 use Rattle.fleet_lib.specs.declared.words.judge.Judge.{Judge as JudgeJob}
 use Rattle.fleet_lib.specs.declared.words.map.MapJob.{MapJob}
 use Rattle.fleet_lib.specs.declared.words.execute.Execute.{Execute as ExecuteJob}
+use Rattle.fleet_lib.specs.declared.words.vehicles.VehiclesJob.{VehiclesJob}
 use Rattle.fleet_lib.specs.declared.words.sim.SimJob.{SimJob}
 use Rattle.fleet_lib.specs.declared.words.change.ChangeJob.{ChangeJob}
 use Rattle.fleet_lib.specs.declared.words.job.Job.{Job}
@@ -226,6 +227,11 @@ pub record IsSimJob (rows : List Row) (asked : SimJob) : Type 0 where
   pub csv : asked.csv ≡ has_flag (codes "csv") rows
   pub json : asked.json ≡ has_flag (codes "json") rows
 
+-- what the words after `vehicles` ask for
+pub record IsVehicles (rows : List Row) (asked : VehiclesJob) : Type 0 where
+  pub clearance : first_of (codes "clearance") rows ≡ option_map (λ s. string_bytes s) asked.clearance
+  pub ahead : first_of (codes "ahead") rows ≡ option_map (λ s. string_bytes s) asked.ahead
+
 -- the job of a subcommand and the words that stand for its arguments
 abbrev pub IsJobOf : Option (Text × List Row) → Job → Type 0
 IsJobOf found (job.View view) = (rows : List Row) × (found ≡ Some (codes "view", rows)) × IsView rows view
@@ -240,3 +246,4 @@ IsJobOf found (job.Map asked) = (rows : List Row) × (found ≡ Some (codes "map
 IsJobOf found (job.Execute execute) = (rows : List Row) × (found ≡ Some (codes "execute", rows)) × IsExecute rows execute
 IsJobOf found (job.Sim asked) = (rows : List Row) × (found ≡ Some (codes "sim", rows)) × IsSimJob rows asked
 IsJobOf found (job.Change change) = (rows : List Row) × (found ≡ Some (codes "change", rows)) × IsChange rows change
+IsJobOf found (job.Vehicles asked) = (rows : List Row) × (found ≡ Some (codes "vehicles", rows)) × IsVehicles rows asked

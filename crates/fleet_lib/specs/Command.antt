@@ -64,9 +64,13 @@ abbrev pub change_app : App
 change_app = with_rules (new_app (codes "change"))
     (required_value_rule (codes "traces") ∷ required_value_rule (codes "to") ∷ flag_rule (codes "renumber") ∷ flag_rule (codes "dry-run") ∷ file_rule (codes "MAP") ∷ files_rule (codes "CHANGE") ∷ [])
 
+-- vehicles [--clearance RULE] [--ahead N]
+abbrev pub vehicles_app : App
+vehicles_app = with_rules (new_app (codes "vehicles")) (value_rule (codes "clearance") ∷ number_rule (codes "ahead") ∷ [])
+
 -- the words of fleet
 abbrev pub word_apps : List App
-word_apps = view_app ∷ check_app ∷ talk_app ∷ convert_app ∷ explain_app ∷ live_app ∷ stats_app ∷ judge_app ∷ map_app ∷ execute_app ∷ sim_app ∷ change_app ∷ []
+word_apps = view_app ∷ check_app ∷ talk_app ∷ convert_app ∷ explain_app ∷ live_app ∷ stats_app ∷ judge_app ∷ map_app ∷ execute_app ∷ sim_app ∷ change_app ∷ vehicles_app ∷ []
 
 -- fleet, which tells its version and wants a word
 abbrev pub fleet_app : App
