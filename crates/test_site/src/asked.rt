@@ -39,8 +39,16 @@ fn several_changes(rt: HostRuntime) {
         }
         None => assert!(rt; false),
     }
-    assert!(rt; changes_said(alloc, b"block 7;", (LAW, LAW)).expect(&rt, "memory").is_none());
-    assert!(rt; changes_said(alloc, b"block 7; hold", (LAW, LAW)).expect(&rt, "memory").is_none());
+    assert!(rt;
+        changes_said(alloc, b"block 7;", (LAW, LAW))
+            .expect(&rt, "memory")
+            .is_none()
+    );
+    assert!(rt;
+        changes_said(alloc, b"block 7; hold", (LAW, LAW))
+            .expect(&rt, "memory")
+            .is_none()
+    );
 }
 
 #[test]
