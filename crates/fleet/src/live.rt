@@ -9,7 +9,6 @@ use crate::folder::Found;
 use crate::journal::FolderJournal;
 use crate::journals::remove_blank;
 use crate::recalling::past_of;
-use crate::site_folder::SiteFolder;
 use crate::streams::{Pipe, Stream};
 use crate::talk::{lent_texts, texts_of};
 use crate::troubles::Troubles;
@@ -214,13 +213,9 @@ pub(crate) fn hold_live<
             return complain_of_pipes(rt.alloc(), fault, said);
         }
     };
-    let (kept, site, recalls) = match past_of(rt, (live, map.as_slice()), found, (error, said)) {
+    let (kept, recalls) = match past_of(rt, (live, map.as_slice()), found, (error, said)) {
         Ok(past) => past,
         Err(status) => return status,
-    };
-    let sites = match SiteFolder::new(rt, live.traces.as_deref(), site) {
-        Ok(sites) => sites,
-        Err(AllocError) => return fail(InputFault::NoMemory, said),
     };
     let ends = LiveEnds {
         input,
@@ -232,8 +227,7 @@ pub(crate) fn hold_live<
         journal,
         recalls,
     };
-    let texts = lent_texts(&map, &script, &kept);
-    let status = run_live(rt, texts, live, (ends, sites), said);
+    let status = run_live(rt, lent_texts(&map, &script, &kept), live, ends, said);
     if live.journal {
         // One that stays is removed at the next start.
         let _removed = remove_blank(rt, live.traces.as_deref().unwrap_or(""));

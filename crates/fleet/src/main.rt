@@ -35,7 +35,6 @@ mod recalling;
 mod recovering;
 mod sim;
 mod sim_texts;
-mod site_folder;
 mod sites;
 mod stats;
 mod streams;

@@ -41,18 +41,18 @@ fn recalls_of<R: Files + Alloc<A = Global>>(
     Ok(recalls)
 }
 
-/// What the fleet of these words goes on from on the map, the record of the last changes of its site, and what its clients
-/// were told before. The error is the status, and is said.
+/// What the fleet of these words goes on from on the map, and what its clients were told before. The error is the
+/// status, and is said.
 pub(crate) fn past_of<R: Files + Alloc<A = Global>, E: Write + Drop, G: Write>(
     rt: &R,
     (live, map): (&Live, &[u8]),
     found: Found,
     (error, said): (E, &mut G),
-) -> Result<(Option<KeptFile>, Option<KeptFile>, Recalls), u8> {
+) -> Result<(Option<KeptFile>, Recalls), u8> {
     let (folder, mut error) = (live.traces.as_deref().unwrap_or(""), error);
-    let (kept, site) = recover(rt, (map, folder), found, &mut error, said)?;
+    let (kept, _site) = recover(rt, (map, folder), found, &mut error, said)?;
     match recalls_of(rt, folder, &kept, recall_in(live).unwrap_or(0)) {
-        Ok(recalls) => Ok((kept, site, recalls)),
+        Ok(recalls) => Ok((kept, recalls)),
         Err(AllocError) => Err(fail(InputFault::NoMemory, said)),
     }
 }

@@ -12,11 +12,6 @@ pub(crate) fn site_name(alloc: Global, folder: &str, number: u32) -> Result<Stri
     format!(in alloc; "{folder}/site-{number}.json")
 }
 
-/// The name of the map that changes lead to which were made while a fleet ran.
-pub(crate) fn map_name(alloc: Global, folder: &str, number: u32) -> Result<String, AllocError> {
-    format!(in alloc; "{folder}/site-{number}.map")
-}
-
 /// The numbers of the records among a folder's files.
 fn site_numbers(alloc: Global, names: &[String]) -> Result<Vec<u32>, FolderFault> {
     let mut numbers = Vec::new(alloc);
@@ -64,7 +59,7 @@ pub(crate) fn site_until<R: Files + Alloc<A = Global>>(
 }
 
 /// Removes the records of changes that were not made, since the program was killed before their chapter was written:
-/// those with a greater number than the last chapter, or all if there is none; and their maps.
+/// those with a greater number than the last chapter, or all if there is none.
 pub(crate) fn remove_unmade<R: Files + Alloc<A = Global>>(
     rt: &R,
     folder: &str,
@@ -74,8 +69,6 @@ pub(crate) fn remove_unmade<R: Files + Alloc<A = Global>>(
     let mut removed = false;
     for number in site_numbers(rt.alloc(), names)? {
         if last.is_none_or(|last| last < number) {
-            let map = map_name(rt.alloc(), folder, number)?;
-            remove_old(rt, map.as_str())?;
             let name = site_name(rt.alloc(), folder, number)?;
             remove_old(rt, name.as_str())?;
             removed = true;

@@ -4,18 +4,16 @@ ghost use Rattle.fleet_map.specs.Form.{HasSides};
 ghost use Rattle.fleet_map.specs.Grammar.{view};
 
 use crate::kept::{KeptFault, KeptText, complain_of_kept, kept_chapter};
+use crate::renumbering::{first_renumbered, moved_before, push_numbers};
 use crate::said::fail;
 use crate::sites::{SiteTrouble, record_on, site_line};
 use crate::waits::leaves_room;
 use fleet_history::Chapter;
 use fleet_hooks::StampLaw;
 use fleet_map::{MapFault, MapText, read_map};
-use fleet_refit::{Change, Dropped, Refit, RefitFault};
+use fleet_refit::{Change, ChangeFault, Dropped, Refit, RefitFault};
 use fleet_reopen::ReopenFault;
-use fleet_site::{
-    Made, MakeFault, SiteRecord, changes_said, first_renumbered, make, moved_before, push_dropped,
-    push_numbers, refused_line, write_site,
-};
+use fleet_site::{Made, MakeFault, SiteRecord, change_said, make, write_site};
 use fleet_survey::map_text;
 use fleet_talk::ResumeFault;
 use fleet_text::{Complaint, InputFault, trace_line, write_whole};
@@ -73,9 +71,11 @@ fn changes_in(
 ) -> Result<Result<Vec<Change>, usize>, AllocError> {
     let mut changes = Vec::new(alloc);
     for place in 0..words.len() {
-        match changes_said(alloc, words[place].as_bytes(), laws)? {
-            Some(said) => changes.extend_from_slice(&said)?,
-            None => return Ok(Err(place)),
+        for part in words[place].as_bytes().split(|byte| *byte == b';') {
+            match change_said(part, laws) {
+                Some(change) => changes.push(change)?,
+                None => return Ok(Err(place)),
+            }
         }
     }
     Ok(Ok(changes))
@@ -89,10 +89,50 @@ fn laws_of(chapter: &Chapter) -> (StampLaw, StampLaw) {
     }
 }
 
+/// The number and the name of a reason why a change cannot be made.
+fn code_of(fault: ChangeFault) -> (u8, &'static str) {
+    match fault {
+        ChangeFault::NoCell => (1, "no-cell"),
+        ChangeFault::IsWall => (2, "wall"),
+        ChangeFault::IsFloor => (3, "floor"),
+        ChangeFault::IsTaken { .. } => (4, "taken"),
+        ChangeFault::NoRobot => (5, "no-robot"),
+        ChangeFault::IsHeld => (6, "held"),
+        ChangeFault::NotHeld => (7, "not-held"),
+        ChangeFault::TooMany => (8, "too-many"),
+        ChangeFault::NoStamp => (9, "no-stamp"),
+        ChangeFault::NoErrand => (10, "no-errand"),
+        ChangeFault::NoMemory => (0, "memory"),
+    }
+}
+
+/// The line for changes that cannot be made.
+fn refused_line(alloc: Global, fault: RefitFault) -> Result<String, AllocError> {
+    match fault {
+        RefitFault::Change { place, fault } => {
+            let (code, name) = code_of(fault);
+            let number = (place as u64).saturating_add(1);
+            if let ChangeFault::IsTaken { robot } = fault {
+                return format!(in alloc;
+                    "change-refused {code} {name} change {number} robot {robot}\n"
+                );
+            }
+            format!(in alloc; "change-refused {code} {name} change {number}\n")
+        }
+        RefitFault::NoRobot => String::from_str(alloc, "change-refused 11 none-moves\n"),
+        RefitFault::NoMemory => Err(AllocError),
+    }
+}
+
 /// Adds a line for each errand that was dropped.
-fn push_all_dropped(text: &mut String, dropped: &[Dropped]) -> Result<(), AllocError> {
+fn push_dropped(text: &mut String, dropped: &[Dropped]) -> Result<(), AllocError> {
     for one in dropped {
-        push_dropped(text, *one)?;
+        let (client, number) = (one.client, one.number);
+        let (robot, cell) = (one.robot, one.cell);
+        write!(
+            text,
+            "dropped {client} {number} robot {robot} cell {cell}\n"
+        )?;
     }
     Ok(())
 }
@@ -100,7 +140,7 @@ fn push_all_dropped(text: &mut String, dropped: &[Dropped]) -> Result<(), AllocE
 /// The lines for changes that were made.
 fn said_of(alloc: Global, made: &Made, moved: &[u32]) -> Result<String, AllocError> {
     let mut said = String::new(alloc);
-    push_all_dropped(&mut said, &made.refit.dropped)?;
+    push_dropped(&mut said, &made.refit.dropped)?;
     push_numbers(&mut said, moved, &made.refit.numbers)?;
     let (count, dropped) = (made.record.changes.len(), made.refit.dropped.len());
     let chapter = made.record.chapter;

@@ -14,7 +14,7 @@ use crate::talk::{TalkTexts, complain, grounds};
 use crate::words::{Live, VERSION};
 use fleet_grid::Grid;
 use fleet_history::Chapter;
-use fleet_live::{Journal, LiveEnds, LiveSettings, Sites, keep_live, read_period, resume_live};
+use fleet_live::{Journal, LiveEnds, LiveSettings, keep_live, read_period, resume_live};
 use fleet_map::text::number_up_to;
 use fleet_script::Head;
 use fleet_talk::{ChapterSink, Ground, MOST_ROBOTS, ResumeFault};
@@ -205,20 +205,18 @@ fn keep_with_hooks<
     E: Write + Send + Drop + 'static,
     S: ChapterSink + Send + Drop + 'static,
     J: Journal + Drop,
-    T: Sites + Drop,
 >(
     rt: &R,
     (grid, head): (Grid, Head),
     kept: Option<Chapter>,
     settings: LiveSettings,
     ends: LiveEnds<I, W, P, Q, E, S, J>,
-    sites: T,
 ) -> Result<bool, ResumeFault> {
     let kit = program_kit!(rt.alloc(), MOST_ROBOTS);
     let ground = Ground { grid, kit, head };
     match kept {
-        Some(chapter) => resume_live(rt, ground, chapter, settings, ends, sites),
-        None => match keep_live(rt, ground, settings, ends, sites) {
+        Some(chapter) => resume_live(rt, ground, chapter, settings, ends),
+        None => match keep_live(rt, ground, settings, ends) {
             Ok(limited) => Ok(limited),
             Err(fault) => Err(ResumeFault::Talk(fault)),
         },
@@ -245,13 +243,12 @@ pub fn run_live<
     E: Write + Send + Drop + 'static,
     S: ChapterSink + Send + Drop + 'static,
     J: Journal + Drop,
-    T: Sites + Drop,
     F: Write,
 >(
     rt: &R,
     texts: TalkTexts<'_>,
     live: &Live,
-    ends: (LiveEnds<I, W, P, Q, E, S, J>, T),
+    ends: LiveEnds<I, W, P, Q, E, S, J>,
     error: &mut F,
 ) -> u8
     requires { length texts.script.now ≤ 16777216 }
@@ -276,7 +273,7 @@ pub fn run_live<
     if let Err(word) = check_pipes(&live.pipes, client_count(&head, &kept)) {
         return complain_of_word(word, error);
     }
-    let ended = match keep_with_hooks(rt, (grid, head), kept, settings, ends.0, ends.1) {
+    let ended = match keep_with_hooks(rt, (grid, head), kept, settings, ends) {
         Ok(limited) => Ok(limited),
         Err(fault) => Err(KeptFault::Resume(fault)),
     };

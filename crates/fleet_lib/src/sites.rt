@@ -86,7 +86,7 @@ pub(crate) fn map_in(alloc: Global, map: &[u8]) -> Result<MapText, SiteTrouble>
 }
 
 /// The record of a file, if it is that of the chapter in the file's name.
-pub fn site_record(alloc: Global, site: KeptText<'_>) -> Result<SiteRecord, SiteTrouble> {
+pub(crate) fn record_in(alloc: Global, site: KeptText<'_>) -> Result<SiteRecord, SiteTrouble> {
     match read_site(alloc, site.text) {
         Ok(record) if record.chapter == site.number => Ok(record),
         Ok(record) => Err(SiteTrouble::Number(record.chapter)),
@@ -101,7 +101,7 @@ pub(crate) fn record_on(
     map: &[u8],
     site: KeptText<'_>,
 ) -> Result<SiteRecord, SiteTrouble> {
-    let record = site_record(alloc, site)?;
+    let record = record_in(alloc, site)?;
     let grid = Grid::new(map_in(alloc, map)?)?;
     let sum = checksum(&grid);
     if sum != record.map {
@@ -146,7 +146,7 @@ fn made_again(alloc: Global, before: Before<'_>, record: &SiteRecord) -> Result<
     let chapter = chapter_in(alloc, before.trace)?;
     let made = match before.site {
         Some(site) => {
-            let last = site_record(alloc, site)?;
+            let last = record_in(alloc, site)?;
             make(alloc, map, Some(&last), &chapter, &record.changes)
         }
         None => make(alloc, map, None, &chapter, &record.changes),
@@ -166,7 +166,7 @@ pub fn changed_map(
     site: KeptText<'_>,
     trace: &[u8],
 ) -> Result<String, SiteTrouble> {
-    let record = site_record(alloc, site)?;
+    let record = record_in(alloc, site)?;
     let made = made_again(alloc, before, &record)?;
     if write_site(alloc, &made.record)? != write_site(alloc, &record)? {
         return Err(SiteTrouble::Differs);

@@ -4,7 +4,6 @@ pub mod Counting
 pub mod Cut
 pub mod Kept
 pub mod Logged
-pub mod Going
 pub mod Growing
 pub mod Backed
 pub mod Pulled

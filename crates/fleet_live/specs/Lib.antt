@@ -2,7 +2,6 @@ pub mod Batch
 pub mod Begin
 pub mod Counts
 pub mod Ended
-pub mod Going
 pub mod Logged
 pub mod Loop
 pub mod Pace

@@ -110,7 +110,6 @@ fn source_of<R: Alloc<A = Global> + Clock>(
         unkept: 0,
         stop: None,
         left_at: None,
-        wish: None,
     })
 }
 

@@ -4,10 +4,8 @@ ghost use Rattle.std.specs.Prelude.{◌≡◌, ◌≤◌, ◌++◌, ℕ, List, O
 ghost use Rattle.std.specs.declared.alloc.Global.{Global};
 ghost use Rattle.fleet_talk.specs.Chapters.{ChapterView};
 ghost use Rattle.live_fleet.specs.Out.{out_of, text_at};
-ghost use Rattle.live_fleet.specs.Party.{Heard, IsDoorOf, door_shown, stage_of};
-ghost use Rattle.live_fleet.specs.Went.{at_of};
+ghost use Rattle.live_fleet.specs.Party.{Heard, IsDoorOf, stage_of};
 ghost use Rattle.live_parts.specs.Kept.{AreSound};
-ghost use Rattle.fleet_live.specs.Going.{IsGoing};
 ghost use Rattle.fleet_live.specs.Logged.{IsReadyAt, Logs};
 ghost use Rattle.fleet_live.specs.Loop.{Keeps, MayHear, next_heard};
 
@@ -72,8 +70,6 @@ pub fn keep<R: Alloc<A = Global> + Clock + Threads + Sync + Wait, E: Events, L: 
         (L.ahead listeners.old) (L.ahead listeners.new) (L.kept listeners.old) (L.kept listeners.new)
         × ((before : List (ChapterView Global)) → IsReadyAt (L.log listeners.old) before (stage_of party.old out.old) → Logs (stage_of party.old out.old) (stage_of party.new out.new) heard
         (L.told listeners.old) (L.told listeners.new) (L.ahead listeners.old) (L.kept listeners.old) (L.kept listeners.new) before (L.log listeners.old) (L.log listeners.new))) }
-    // It may go on.
-    ensures going { OnOk result (IsGoing (L.log listeners.new) (L.ahead listeners.new) (L.kept listeners.new) (at_of party.new.fleet out.new) (door_shown party.new.door)) }
 {
     let mut line = Vec::new(rt.alloc());
     for _ in rt.forever() {

@@ -4,11 +4,9 @@
 
 mod archiving;
 mod batch;
-mod changing;
 mod conversations;
 mod counts;
 mod desk;
-mod draft;
 mod ended;
 mod ends;
 mod events;
@@ -25,20 +23,16 @@ mod opening;
 mod pace;
 mod place;
 mod reading;
-mod refusal;
 mod report_out;
 mod reports;
 mod resuming;
 mod serving;
 mod shelf;
-mod sites;
 mod source;
-mod telling;
 mod text_out;
 mod timing;
 mod turns;
 mod wake;
-mod wish;
 mod writing;
 
 pub use live::keep_live;
@@ -46,4 +40,3 @@ pub use live_parts::{
     Given, Journal, Journaled, LiveEnds, LiveSettings, Pipes, Recalls, read_period,
 };
 pub use resuming::resume_live;
-pub use sites::Sites;

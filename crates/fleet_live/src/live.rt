@@ -14,7 +14,6 @@ use crate::ended::unopened;
 use crate::manner::planned_fleet;
 use crate::opening::Opening;
 use crate::serving::serve;
-use crate::sites::Sites;
 use fleet_core::OpenFault;
 use fleet_script::Head;
 use fleet_talk::{ChapterSink, Door, Ground, TALK_LIMITS, TalkFault, counted, door_for};
@@ -46,14 +45,12 @@ pub(crate) fn serve_planned<
     E: Write + Send + Drop + 'static,
     S: ChapterSink + Send + Drop + 'static,
     J: Journal + Drop,
-    T: Sites + Drop,
 >(
     rt: &R,
     session: Session,
     door: Door,
     site: Site,
     ends: LiveEnds<I, W, P, Q, E, S, J>,
-    sites: T,
 ) -> Result<bool, TalkFault>
     requires number { 0 ≤ session.world.core.number }
     requires fresh { IsFresh session.world.core }
@@ -64,7 +61,7 @@ pub(crate) fn serve_planned<
         Ok((session, door)) => {
             let mut ends = ends;
             ends.sink.opened(&door);
-            serve(rt, session, door, site, ends, sites)
+            serve(rt, session, door, site, ends)
         }
         Err(fault) => Err(fault),
     }
@@ -80,14 +77,12 @@ fn keep_fleet<
     E: Write + Send + Drop + 'static,
     S: ChapterSink + Send + Drop + 'static,
     J: Journal + Drop,
-    T: Sites + Drop,
 >(
     rt: &R,
     opening: Opening,
     settings: LiveSettings,
     door: Door,
     ends: LiveEnds<I, W, P, Q, E, S, J>,
-    sites: T,
 ) -> Result<bool, TalkFault>
     // Of each call: only a call with a condition may hand on closures.
     requires hooks { 0 ≤ vec_len opening.hooks.ties }
@@ -107,7 +102,7 @@ fn keep_fleet<
         Ok(session) => session,
         Err(fault) => return Err(unopened(fault)),
     };
-    serve_planned(rt, session, door, Site { settings, cells }, ends, sites)
+    serve_planned(rt, session, door, Site { settings, cells }, ends)
 }
 
 /// Keeps the fleet that the head names, with this door.
@@ -120,14 +115,12 @@ fn keep_ground<
     E: Write + Send + Drop + 'static,
     S: ChapterSink + Send + Drop + 'static,
     J: Journal + Drop,
-    T: Sites + Drop,
 >(
     rt: &R,
     ground: Ground,
     settings: LiveSettings,
     door: Door,
     ends: LiveEnds<I, W, P, Q, E, S, J>,
-    sites: T,
 ) -> Result<bool, TalkFault>
     // Of each call: only a call with a condition may hand on closures.
     requires hooks { 0 ≤ vec_len ground.kit.plain.ties }
@@ -142,7 +135,7 @@ fn keep_ground<
     let hooks = kit.choose(head.south.unwrap_or(false)).cut(starts.len());
     let limits = head.limits.limits_over(TALK_LIMITS);
     let opening = Opening::of(head.clients.unwrap_or(1), limits, grid, starts, hooks);
-    keep_fleet(rt, opening, settings, door, ends, sites)
+    keep_fleet(rt, opening, settings, door, ends)
 }
 
 /// Keeps a fleet in real time: opens one with the head's robots and clients, lets each conversation post, look and be
@@ -160,13 +153,11 @@ pub fn keep_live<
     E: Write + Send + Drop + 'static,
     S: ChapterSink + Send + Drop + 'static,
     J: Journal + Drop,
-    T: Sites + Drop,
 >(
     rt: &R,
     ground: Ground,
     settings: LiveSettings,
     ends: LiveEnds<I, W, P, Q, E, S, J>,
-    sites: T,
 ) -> Result<bool, TalkFault>
     // Of each call: only a call with a condition may hand on closures.
     requires { 0 ≤ vec_len ground.kit.plain.ties }
@@ -177,7 +168,7 @@ pub fn keep_live<
 {
     let robots = robots_in(&ground.head);
     match door_for(rt.alloc(), settings.roomy, &ground.grid, robots) {
-        Ok(door) => keep_ground(rt, ground, settings, door, ends, sites),
+        Ok(door) => keep_ground(rt, ground, settings, door, ends),
         Err(AllocError) => {
             mem::drop(ground.kit);
             Err(TalkFault::NoMemory)

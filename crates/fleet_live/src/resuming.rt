@@ -10,7 +10,6 @@ ghost use Rattle.fleet_talk.specs.Resumed.{IsRefusal, IsResumeFault, MayResume, 
 
 use crate::desk::Site;
 use crate::live::serve_planned;
-use crate::sites::Sites;
 use fleet_core::World;
 use fleet_history::Chapter;
 use fleet_talk::{
@@ -20,25 +19,24 @@ use fleet_world::Session;
 use live_parts::{Journal, LiveEnds, LiveSettings};
 use std::alloc::{Alloc, AllocError, Global};
 use std::io::{Read, Write};
-use std::mem;
 use std::sync::Wait;
 use std::thread::Threads;
 use std::time::Clock;
 
-/// The world that goes on from a chapter, and its door.
-pub(crate) fn world_on(
+/// The world that goes on from a chapter, and its door. The chapter is dropped.
+fn world_on(
     alloc: Global,
     ground: Ground,
-    chapter: &Chapter,
+    chapter: Chapter,
     roomy: bool,
 ) -> Result<(World, Door), ResumeFault>
     // Of each call: only a call with a condition may hand on closures that another crate hands out.
     requires { 0 ≤ vec_len ground.kit.plain.ties }
-    ensures ok { IfOk result (λ r. r.0.core ≡ world_after (kit_laws ground.kit) ground.grid (drafted ground.head) (chapter_shown chapter.now)) }
-    ensures may { OnOk result (MayResume (kit_laws ground.kit) ground.grid (drafted ground.head) (chapter_shown chapter.now)) }
+    ensures ok { IfOk result (λ r. r.0.core ≡ world_after (kit_laws ground.kit) ground.grid (drafted ground.head) (chapter_shown chapter)) }
+    ensures may { OnOk result (MayResume (kit_laws ground.kit) ground.grid (drafted ground.head) (chapter_shown chapter)) }
     ensures fresh { IfOk result (λ r. IsFresh r.0.core) }
     ensures known { IfOk result (λ r. AreRoomyFor r.0.core.floor r.1.roominess.items) }
-    ensures fault { IfErr result (λ fault. IsResumeFault roomy (kit_laws ground.kit) ground.grid (drafted ground.head) (chapter_shown chapter.now) fault) }
+    ensures fault { IfErr result (λ fault. IsResumeFault roomy (kit_laws ground.kit) ground.grid (drafted ground.head) (chapter_shown chapter) fault) }
 {
     let settings = Settings {
         marks: false,
@@ -46,7 +44,7 @@ pub(crate) fn world_on(
         roomy,
         manner: Manner::Plain,
     };
-    world_with_door(alloc, ground, chapter, settings)
+    world_with_door(alloc, ground, &chapter, settings)
 }
 
 /// Keeps a fleet in real time that goes on from a chapter: its world is that of `world_with_door`, and its orders, errands,
@@ -63,14 +61,12 @@ pub fn resume_live<
     E: Write + Send + Drop + 'static,
     S: ChapterSink + Send + Drop + 'static,
     J: Journal + Drop,
-    T: Sites + Drop,
 >(
     rt: &R,
     ground: Ground,
     chapter: Chapter,
     settings: LiveSettings,
     ends: LiveEnds<I, W, P, Q, E, S, J>,
-    sites: T,
 ) -> Result<bool, ResumeFault>
     // Of each call: only a call with a condition may hand on closures.
     requires { 0 ≤ vec_len ground.kit.plain.ties }
@@ -81,9 +77,7 @@ pub fn resume_live<
 {
     let (cells, number) = (ground.grid.cell_count(), chapter.number);
     let mut ends = ends;
-    let opened = world_on(rt.alloc(), ground, &chapter, settings.roomy);
-    mem::drop(chapter);
-    let (world, door) = match opened {
+    let (world, door) = match world_on(rt.alloc(), ground, chapter, settings.roomy) {
         Ok(opened) => opened,
         Err(fault) => return Err(fault),
     };
@@ -91,7 +85,7 @@ pub fn resume_live<
     match Session::over(rt.alloc(), world) {
         Ok(session) => {
             ends.sink.goes_on(number, clock);
-            match serve_planned(rt, session, door, Site { settings, cells }, ends, sites) {
+            match serve_planned(rt, session, door, Site { settings, cells }, ends) {
                 Ok(limited) => Ok(limited),
                 Err(fault) => Err(ResumeFault::Talk(fault)),
             }

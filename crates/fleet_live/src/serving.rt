@@ -1,33 +1,24 @@
 //! How a fleet is kept that is open: its threads, the loop, and its end.
 
-ghost use Rattle.std.specs.Prelude.{◌≡◌, ◌≤◌, ◌++◌, [], IfErr, IfOk, IfSome, List, OnOk, map, option_map, vec_len};
+ghost use Rattle.std.specs.Prelude.{◌≡◌, ◌≤◌, [], IfErr, IfOk, IfSome, List, OnOk, map, option_map, vec_len};
 ghost use Rattle.rtrb.specs.Ring.{sent};
 ghost use Rattle.fleet_bridge.specs.Roominess.{AreRoomyFor};
 ghost use Rattle.fleet_talk.specs.Chapters.{ChapterView, chapter_shown};
 ghost use Rattle.fleet_world.specs.Keeps.{talk};
 ghost use Rattle.live_parts.specs.Recalls.{Recalls};
-ghost use Rattle.live_fleet.specs.Party.{Heard, door_shown, stage_of};
+ghost use Rattle.live_fleet.specs.Party.{door_shown, stage_of};
 ghost use Rattle.live_fleet.specs.Recalling.{AreBegun};
-ghost use Rattle.live_fleet.specs.Went.{at_of};
 ghost use Rattle.fleet_live.specs.Begin.{Serves, first_stage, speakers_at};
 ghost use Rattle.fleet_live.specs.Ended.{IsEnded};
-ghost use Rattle.fleet_live.specs.Going.{IsGoing};
 ghost use Rattle.fleet_live.specs.Logged.{IsToldLogged, log_view};
 ghost use Rattle.fleet_live.specs.Taken.{noted};
-ghost use Rattle.fleet_live.specs.Loop.{Keeps};
-ghost use Rattle.fleet_live.specs.Told.{ahead_at, handed_at};
+ghost use Rattle.fleet_live.specs.Told.{handed_at};
 ghost use Rattle.std.specs.declared.alloc.Global.{Global};
 
-use crate::changing::{SiteBook, change, refuse};
 use crate::desk::{Desk, Site, begin, party_of};
 use crate::ended::{cause, ended};
 use crate::keeping::keep;
-use crate::refusal::Refusal;
-use crate::sites::Sites;
-use crate::wish::Wish;
-use fleet_hooks::{ArrivalHook, Farewell, Hooks, TieHook};
-use fleet_talk::{ChapterSink, Door, MOST_ROBOTS, TalkFault};
-use fleet_text::HookKit;
+use fleet_talk::{ChapterSink, Door, TalkFault};
 use fleet_world::Session;
 use live_parts::{Journal, LiveEnds, Recalls, Stop};
 use std::alloc::{Alloc, AllocError, Global};
@@ -78,9 +69,6 @@ fn live<
     ensures logged { IfOk result (λ r. OnOk r.1 ((before : List (ChapterView Global)) → IfSome (option_map J.logged ends.journal) (λ logged. logged ≡ before) → (recalls : Recalls) × AreBegun session.world.core.history ends.recalls recalls
         × IsToldLogged (first_stage (talk session) recalls (door_shown door) (speakers_at site.settings (vec_len ends.pipes) session.world.core.history)) (map noted r.0.events.taken.items) (handed_at r.0.listeners.texts.items) before
         (log_view J.logged r.0.listeners.log.journal r.0.listeners.log.number r.0.listeners.log.entries))) }
-    // It may go on, on another site too.
-    ensures going { IfOk result (λ r. OnOk r.1 (IsGoing (log_view J.logged r.0.listeners.log.journal r.0.listeners.log.number r.0.listeners.log.entries) (ahead_at r.0.listeners.texts.items)
-        (map chapter_shown (sent r.0.listeners.chapters)) (at_of r.0.party.fleet r.0.out) (door_shown r.0.party.door))) }
 {
     let (pipes, settings) = (ends.pipes.len(), site.settings);
     let mut ends = ends;
@@ -105,87 +93,32 @@ fn live<
     Ok((desk, kept))
 }
 
-/// Lets the fleet hear its clients until it has ended, or its site is to be changed.
-fn keep_desk<
-    R: Alloc<A = Global> + Clock + Threads + Sync + Wait,
-    S: ChapterSink + Drop,
+/// Lets the fleet hear its clients until it has ended, and all was told. Returns whether a limit was met.
+pub(crate) fn serve<
+    R: Alloc<A = Global> + Clock + Threads + Sync + Wait + Copy + Send + Drop + 'static,
+    I: Read + Send + Drop + 'static,
+    W: Write + Send + Drop + 'static,
+    P: Read + Send + Drop + 'static,
+    Q: Write + Send + Drop + 'static,
+    E: Write + Send + Drop + 'static,
+    S: ChapterSink + Send + Drop + 'static,
     J: Journal + Drop,
->(rt: &R, desk: &mut Desk<S, J>) -> Result<(), AllocError>
-    // Of each call: only a call with a condition may hand on closures.
-    requires number { 0 ≤ desk.old.party.fleet.session.world.core.number }
-    requires going { IsGoing (log_view J.logged desk.old.listeners.log.journal desk.old.listeners.log.number desk.old.listeners.log.entries) (ahead_at desk.old.listeners.texts.items)
-        (map chapter_shown (sent desk.old.listeners.chapters)) (at_of desk.old.party.fleet desk.old.out) (door_shown desk.old.party.door) }
-    // What each conversation was told since is the text of a core run of the events that were taken since, and so are the chapters.
-    ensures kept { OnOk result ((heard : List Heard) × (map noted desk.new.events.taken.items ≡ map noted desk.old.events.taken.items ++ heard)
-        × Keeps (stage_of desk.old.party desk.old.out) (stage_of desk.new.party desk.new.out) heard (handed_at desk.old.listeners.texts.items) (handed_at desk.new.listeners.texts.items)
-        (ahead_at desk.old.listeners.texts.items) (ahead_at desk.new.listeners.texts.items) (map chapter_shown (sent desk.old.listeners.chapters)) (map chapter_shown (sent desk.new.listeners.chapters))) }
-    ensures going { OnOk result (IsGoing (log_view J.logged desk.new.listeners.log.journal desk.new.listeners.log.number desk.new.listeners.log.entries) (ahead_at desk.new.listeners.texts.items)
-        (map chapter_shown (sent desk.new.listeners.chapters)) (at_of desk.new.party.fleet desk.new.out) (door_shown desk.new.party.door)) }
-{
-    keep(
-        rt,
-        &mut desk.party,
-        &mut desk.out,
-        &mut desk.events,
-        &mut desk.listeners,
-    )
-}
-
-/// Makes the changes that a line asks for, and lets the fleet hear its clients again.
-fn change_on<
-    R: Alloc<A = Global> + Clock + Threads + Sync + Wait,
-    S: ChapterSink + Drop,
-    J: Journal + Drop,
-    T: Sites,
 >(
     rt: &R,
-    desk: &mut Desk<S, J>,
-    kit: HookKit,
-    wish: &Wish,
-    book: &mut SiteBook<T>,
-) -> Result<(), AllocError>
-    // Of each call: only a call with a condition may hand on closures.
-    requires hooks { 0 ≤ vec_len kit.plain.ties }
-    requires going { IsGoing (log_view J.logged desk.old.listeners.log.journal desk.old.listeners.log.number desk.old.listeners.log.entries) (ahead_at desk.old.listeners.texts.items)
-        (map chapter_shown (sent desk.old.listeners.chapters)) (at_of desk.old.party.fleet desk.old.out) (door_shown desk.old.party.door) }
-    ensures going { OnOk result (IsGoing (log_view J.logged desk.new.listeners.log.journal desk.new.listeners.log.number desk.new.listeners.log.entries) (ahead_at desk.new.listeners.texts.items)
-        (map chapter_shown (sent desk.new.listeners.chapters)) (at_of desk.new.party.fleet desk.new.out) (door_shown desk.new.party.door)) }
-{
-    change(rt, desk, kit, wish, book)?;
-    keep_desk(rt, desk)
-}
-
-/// Answers that there is no memory for changes, and lets the fleet hear its clients again.
-fn refuse_on<
-    R: Alloc<A = Global> + Clock + Threads + Sync + Wait,
-    S: ChapterSink + Drop,
-    J: Journal + Drop,
->(rt: &R, desk: &mut Desk<S, J>, wish: &Wish) -> Result<(), AllocError>
-    // Of each call: only a call with a condition may hand on closures.
-    requires going { IsGoing (log_view J.logged desk.old.listeners.log.journal desk.old.listeners.log.number desk.old.listeners.log.entries) (ahead_at desk.old.listeners.texts.items)
-        (map chapter_shown (sent desk.old.listeners.chapters)) (at_of desk.old.party.fleet desk.old.out) (door_shown desk.old.party.door) }
-    ensures going { OnOk result (IsGoing (log_view J.logged desk.new.listeners.log.journal desk.new.listeners.log.number desk.new.listeners.log.entries) (ahead_at desk.new.listeners.texts.items)
-        (map chapter_shown (sent desk.new.listeners.chapters)) (at_of desk.new.party.fleet desk.new.out) (door_shown desk.new.party.door)) }
-{
-    refuse(
-        rt.alloc(),
-        &mut desk.party.speakers,
-        wish,
-        Refusal::NoMemory,
-    )?;
-    keep_desk(rt, desk)
-}
-
-/// Ends all threads of a fleet that has ended, or could not go on. Returns whether a limit was met.
-fn end<
-    R: Alloc<A = Global> + Clock + Threads + Sync + Wait,
-    S: ChapterSink + Drop,
-    J: Journal + Drop,
->(rt: &R, desk: Desk<S, J>, kept: Result<(), AllocError>, site: Site) -> Result<bool, TalkFault>
-    // Of each call: only a call with a condition may hand on closures.
-    requires number { 0 ≤ desk.party.fleet.session.world.core.number }
+    session: Session,
+    door: Door,
+    site: Site,
+    ends: LiveEnds<I, W, P, Q, E, S, J>,
+) -> Result<bool, TalkFault>
+    requires number { 0 ≤ session.world.core.number }
+    requires door { AreRoomyFor session.world.core.floor door.roominess.items }
     ensures opened { IfErr result IsEnded }
 {
+    let mut session = session;
+    session.world.keep(kept_bytes(site.cells));
+    let Ok((desk, kept)) = live(rt, session, door, site, ends) else {
+        return Err(TalkFault::NoMemory);
+    };
     let Desk {
         party,
         out: _out,
@@ -205,89 +138,4 @@ fn end<
         Err(AllocError) => listeners.why(),
     };
     ended(cause(stop, last, is_written), party.fleet.limited)
-}
-
-/// Lets the fleet go on: makes the changes for which the loop has ended, and then hears its clients again, until they
-/// have ended. Returns whether a limit was met.
-fn serve_on<
-    R: Alloc<A = Global> + Clock + Threads + Sync + Wait + Copy + Send + Drop + 'static,
-    S: ChapterSink + Send + Drop + 'static,
-    J: Journal + Drop,
-    T: Sites + Drop,
->(rt: &R, desk: Desk<S, J>, site: Site, sites: T) -> Result<bool, TalkFault>
-    requires number { 0 ≤ desk.party.fleet.session.world.core.number }
-    requires going { IsGoing (log_view J.logged desk.listeners.log.journal desk.listeners.log.number desk.listeners.log.entries) (ahead_at desk.listeners.texts.items)
-        (map chapter_shown (sent desk.listeners.chapters)) (at_of desk.party.fleet desk.out) (door_shown desk.party.door) }
-    ensures opened { IfErr result IsEnded }
-{
-    let mut desk = desk;
-    let mut book = SiteBook::new(sites, site.settings);
-    for _ in rt.forever() {
-        let Some(wish) = desk.events.source.wish.take() else {
-            return end(rt, desk, Ok(()), site);
-        };
-        let plain = Hooks::alike(
-            rt.alloc(),
-            MOST_ROBOTS,
-            TieHook::fixed([0; 4]),
-            ArrivalHook::fixed(0),
-            Farewell::fixed(0),
-        );
-        let kept = match plain {
-            Ok(plain) => match Hooks::alike(
-                rt.alloc(),
-                MOST_ROBOTS,
-                TieHook::south_first(),
-                ArrivalHook::by_tick(),
-                Farewell::by_cell(),
-            ) {
-                Ok(south) => {
-                    change_on(rt, &mut desk, HookKit { plain, south }, &wish, &mut book)
-                }
-                Err(AllocError) => {
-                    mem::drop(plain);
-                    refuse_on(rt, &mut desk, &wish)
-                }
-            },
-            Err(AllocError) => refuse_on(rt, &mut desk, &wish),
-        };
-        let Ok(()) = kept else {
-            return end(rt, desk, Err(AllocError), site);
-        };
-    }
-    unreachable!()
-}
-
-/// Lets the fleet hear its clients until it has ended, and all was told. Returns whether a limit was met.
-pub(crate) fn serve<
-    R: Alloc<A = Global> + Clock + Threads + Sync + Wait + Copy + Send + Drop + 'static,
-    I: Read + Send + Drop + 'static,
-    W: Write + Send + Drop + 'static,
-    P: Read + Send + Drop + 'static,
-    Q: Write + Send + Drop + 'static,
-    E: Write + Send + Drop + 'static,
-    S: ChapterSink + Send + Drop + 'static,
-    J: Journal + Drop,
-    T: Sites + Drop,
->(
-    rt: &R,
-    session: Session,
-    door: Door,
-    site: Site,
-    ends: LiveEnds<I, W, P, Q, E, S, J>,
-    sites: T,
-) -> Result<bool, TalkFault>
-    requires number { 0 ≤ session.world.core.number }
-    requires door { AreRoomyFor session.world.core.floor door.roominess.items }
-    ensures opened { IfErr result IsEnded }
-{
-    let mut session = session;
-    session.world.keep(kept_bytes(site.cells));
-    let Ok((desk, kept)) = live(rt, session, door, site, ends) else {
-        return Err(TalkFault::NoMemory);
-    };
-    match kept {
-        Ok(()) => serve_on(rt, desk, site, sites),
-        Err(AllocError) => end(rt, desk, Err(AllocError), site),
-    }
 }

@@ -8,7 +8,6 @@ use crate::place::{Place, has_room, is_full};
 use crate::reports::Reports;
 use crate::shelf::Shelf;
 use crate::wake::Wake;
-use crate::wish::Wish;
 use live_fleet::{Outboxes, Party, Rest};
 use live_parts::Stop;
 use std::alloc::{Alloc, AllocError, Global};
@@ -52,8 +51,6 @@ pub(crate) struct Source {
     pub(crate) stop: Option<Stop>,
     /// When the loop first found that the fleet has ended.
     pub(crate) left_at: Option<u64>,
-    /// The changes that a line asks for, until the loop has ended for them.
-    pub(crate) wish: Option<Wish>,
 }
 
 /// Whether a conversation waits until a chapter is kept.
@@ -100,26 +97,6 @@ impl Source {
         }
         self.wake.sleep(rt);
         self.hand()
-    }
-
-    /// What comes before changes of the site: the chapter is handed out, if it has an entry and is not the last, what was
-    /// said is handed on, and the keeper has tried to keep all chapters.
-    fn leave_site<R: Wait>(&mut self, rt: &R, party: &Party, out: &Outboxes) -> Next {
-        let world = &party.fleet.session.world;
-        let chapter = world.chapter();
-        if !chapter.entries.is_empty()
-            && chapter.number.saturating_add(1) < world.core.limits().chapters
-        {
-            return self.hear(Asked::Due);
-        }
-        if !self.batch.is_empty {
-            return self.end_batch(out);
-        }
-        if !self.shelf.is_answered() {
-            self.wake.sleep(rt);
-            return self.hand();
-        }
-        Next::Over
     }
 
     /// Whether the first conversation has to take some of what it was told before it is heard again.
@@ -199,9 +176,6 @@ impl Source {
         if let Some(stop) = self.stop {
             return Ok(self.stop(rt, party, out, stop));
         }
-        if self.wish.is_some() {
-            return Ok(self.leave_site(rt, party, out));
-        }
         if self.is_chapter_waiting(party, out) {
             return Ok(self.end_batch(out));
         }
@@ -210,7 +184,6 @@ impl Source {
         }
         match self.next_line(rt, party, out, line)? {
             Some(asked) => Ok(Next::Hear(asked)),
-            None if self.wish.is_some() => Ok(self.end_batch(out)),
             None => self.pause(rt, alloc, party, out),
         }
     }

@@ -3,9 +3,8 @@
 use crate::ends::Asked;
 use crate::place::{has_much_room, has_room, is_full, waiting};
 use crate::source::Source;
-use crate::wish::Wish;
 use live_fleet::{Outboxes, Party, Rest};
-use std::alloc::{Alloc, AllocError, Global};
+use std::alloc::AllocError;
 use std::sync::Wait;
 
 /// How many turns of a `tick` are made although `quit` was read after it. So what a conversation is told does not
@@ -70,27 +69,19 @@ impl Source {
         Ok(Some(Asked::Line(from)))
     }
 
-    /// The next line of the first conversation, if there is one, or its end. One that asks for changes is noted.
-    fn next_of_first<R: Alloc<A = Global> + Wait>(
+    /// The next line of the first conversation, if there is one, or its end.
+    fn next_of_first<R: Wait>(
         &mut self,
         rt: &R,
         party: &Party,
         line: &mut Vec<u8>,
     ) -> Result<Option<Asked>, AllocError> {
-        if self.wish.is_some() {
-            return Ok(None);
-        }
         // Before a look at the ring: if the reader has ended, all its lines are there.
         let ended = self.end_of_first(rt);
         self.first_tick = party.fleet.session.world.clock();
         if let Some(place) = self.places.first_mut() {
             if place.lines.take(rt, line)? {
-                // Changes are made between two fleets, and heard by neither.
-                self.wish = Wish::of(rt.alloc(), line, &party.fleet.session.world)?;
-                return Ok(match &self.wish {
-                    Some(_) => None,
-                    None => Some(Asked::Line(0)),
-                });
+                return Ok(Some(Asked::Line(0)));
             }
         }
         self.stop = ended;
@@ -101,7 +92,7 @@ impl Source {
     }
 
     /// What is to be heard next of a conversation.
-    fn next_of<R: Alloc<A = Global> + Wait>(
+    fn next_of<R: Wait>(
         &mut self,
         rt: &R,
         party: &Party,
@@ -131,7 +122,7 @@ impl Source {
     }
 
     /// What is to be heard next of all conversations, one after another.
-    pub(crate) fn next_line<R: Alloc<A = Global> + Wait>(
+    pub(crate) fn next_line<R: Wait>(
         &mut self,
         rt: &R,
         party: &Party,

@@ -1,6 +1,4 @@
-pub mod Asked
 pub mod Checksum
-pub mod Lines
 pub mod Make
 pub mod Record
 pub mod Said

@@ -28,7 +28,7 @@ use std::thread::Threads;
 use std::time::Clock;
 use test_kit::blocks_of;
 use timed::Timed;
-use tray::{Counts, NoJournal, NoSites, Tray};
+use tray::{Counts, NoJournal, Tray};
 
 /// A hall of nine cells with a dead end of three.
 const STUB: &[u8] = b"type octile\nheight 3\nwidth 6\nmap\n...@@@\n......\n...@@@\n";
@@ -162,7 +162,7 @@ fn tell_case<R: Alloc<A = Global> + Clock + Threads + Sync + Wait + Copy + Send 
         kept: case.kept(),
     };
     let paced = Paced { rt: *rt, hands };
-    let status = run_live(&paced, texts, &words, (ends, NoSites), &mut told);
+    let status = run_live(&paced, texts, &words, ends, &mut told);
     let line = format!(in alloc; "status {status}\n")?;
     write_whole(&mut told, line.as_bytes());
     write_whole(&mut told, counts.line(alloc)?.as_bytes());

@@ -2,7 +2,7 @@
 
 ghost use Rattle.std.specs.Prelude.{None};
 
-use fleet_lib::{Chapter, ChapterSink, Journal, SinkFault, SiteRecord, Sites};
+use fleet_lib::{Chapter, ChapterSink, Journal, SinkFault};
 use std::alloc::{AllocError, Global};
 use std::sync::Arc;
 use std::sync::atomic::{AtomicU64, Ordering};
@@ -90,25 +90,6 @@ impl Journal for NoJournal {
     ghost logged = { λ _. [] };
 
     fn log(&mut self, _chapter: &Chapter, _from: usize) -> Result<(), SinkFault> {
-        Err(SinkFault::File)
-    }
-}
-
-/// The changes of a fleet that keeps none.
-#[derive(Drop)]
-pub(crate) struct NoSites;
-
-impl Sites for NoSites {
-    fn last(&mut self) -> Option<SiteRecord> {
-        None
-    }
-
-    fn keep(
-        &mut self,
-        _record: &SiteRecord,
-        _map: &str,
-        _chapter: &Chapter,
-    ) -> Result<(), SinkFault> {
         Err(SinkFault::File)
     }
 }

@@ -1,9 +1,9 @@
 //! The numbers that robots have in `live` and `talk`: those that move, counted from 0.
 
-use crate::record::SiteRecord;
-use crate::said::push_renumbered;
 use fleet_refit::Standing;
+use fleet_site::SiteRecord;
 use std::alloc::{AllocError, Global};
+use std::fmt::Write;
 
 /// A place as a robot's number.
 fn number_at(place: usize) -> u32 {
@@ -15,7 +15,7 @@ fn number_at(place: usize) -> u32 {
 }
 
 /// The robots that moved, in order: before the first changes these are all.
-pub fn moved_before(
+pub(crate) fn moved_before(
     alloc: Global,
     before: Option<&SiteRecord>,
     robots: usize,
@@ -45,7 +45,7 @@ fn is_renumbered(moved: &[u32], robot: u32, place: usize) -> bool {
 }
 
 /// The first robot that gets another number.
-pub fn first_renumbered(moved: &[u32], numbers: &[u32]) -> Option<u32> {
+pub(crate) fn first_renumbered(moved: &[u32], numbers: &[u32]) -> Option<u32> {
     for place in 0..numbers.len() {
         if is_renumbered(moved, numbers[place], place) {
             return Some(numbers[place]);
@@ -55,11 +55,15 @@ pub fn first_renumbered(moved: &[u32], numbers: &[u32]) -> Option<u32> {
 }
 
 /// Adds a line for each robot that gets another number.
-pub fn push_numbers(text: &mut String, moved: &[u32], numbers: &[u32]) -> Result<(), AllocError> {
+pub(crate) fn push_numbers(
+    text: &mut String,
+    moved: &[u32],
+    numbers: &[u32],
+) -> Result<(), AllocError> {
     for place in 0..numbers.len() {
         let robot = numbers[place];
         if is_renumbered(moved, robot, place) {
-            push_renumbered(text, robot, place)?;
+            write!(text, "renumbered robot {robot} live {place}\n")?;
         }
     }
     Ok(())

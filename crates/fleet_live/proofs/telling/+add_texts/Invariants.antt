@@ -1,6 +1,0 @@
--- One conversation less each time.
-use Rattle.std.proofs.Common.{length}
-use Rattle.fleet_live.proofs.telling.+add_texts.Given as goal
-
-abbrev pub decreases-add_texts : goal.decreases-add_texts
-decreases-add_texts l = length l.texts.now
