@@ -24,11 +24,14 @@ class Random:
             self.state.append(mixed ^ (mixed >> 31))
 
     def below(self, bound):
+        return self.next() % bound
+
+    def next(self):
         a, b, c, d = self.state
         drawn = (turned((a + d) & WORD, 23) + a) & WORD
         c, d = c ^ a, d ^ b
         self.state = [a ^ d, b ^ c, c ^ ((b << 17) & WORD), turned(d, 45)]
-        return drawn % bound
+        return drawn
 
 
 def turned(word, by):
@@ -58,22 +61,41 @@ def roomy(grid, robots):
     return cells
 
 
-def run(grid, robots, seed, ticks, warm_up, goals, mover=None):
-    """Makes a run; returns its figures."""
-    random = Random(seed)
-    cells = list(filter(grid.is_floor, range(grid.size())))
-    for robot in range(robots):
+def random_hooks(robots, seed):
+    """Hooks whose ranks are random, by seed, tick, robot and direction."""
+    def rank(robot, _cell, _neighbour, way, tick):
+        return Random((seed * 2 ** 32 + (tick * 512 + robot) * 4 + way) & WORD).next() >> 56
+
+    plain = model.plain_hooks(robots)
+    return model.Hooks([(((0,) * 4, (255,) * 4), rank)] * robots, plain.arrivals, plain.farewells)
+
+
+def run(grid, robots, seed, ticks, warm_up, goals, mover=None, ties="plain", starts=None, tasks=None):
+    """Makes a run; returns its figures. Of `tasks`, if there are some, the goals are handed out in turn."""
+    random, turn = Random(seed), 0
+    cells = starts or list(filter(grid.is_floor, range(grid.size())))
+    for robot in range(0 if starts else robots):
         other = robot + random.below(len(cells) - robot)
         cells[robot], cells[other] = cells[other], cells[robot]
-    world = model.World(grid, cells[:robots], 1, LIMITS, mover=mover)
+    world = model.World(grid, cells[:robots], 1, LIMITS, hooks=random_hooks(robots, seed) if ties == "random" else None, mover=mover)
     goals = sorted(goals)
     begun, rows, waited, arrivals = {}, [], 0, []
 
+    def chosen(own):
+        nonlocal turn
+        if tasks is None:
+            choice = [it for it in goals if it != own and grid.same_part(it, own)]
+            return choice[random.below(len(choice))] if choice else None
+        for _ in tasks:
+            cell, turn = tasks[turn % len(tasks)], turn + 1
+            if cell != own and cell in goals and grid.same_part(cell, own):
+                return cell
+        return None
+
     def send(robot):
         own = world.place[robot]
-        choice = [it for it in goals if it != own and grid.same_part(it, own)]
-        if choice:
-            cell = choice[random.below(len(choice))]
+        cell = chosen(own)
+        if cell is not None:
             assert world.take(0, ("go", robot, cell))[0] == "accepted"
             begun[robot] = (world.ticks, grid.field(cell)[own])
 

@@ -123,11 +123,10 @@ class Run:
         return rows
 
     def left_rows(self):
-        """Returns the errands that were accepted and are in a queue at the end."""
+        """Returns the errands that are in a queue at the end."""
         return [
-            {"client": client, "number": number, "robot": robot, "cell": self.goals[client, number], "accepted": self.accepted[client, number],
-             "begun": None, "arrived": None, "from": None, "steps": None, "distance": None}
-            for robot, queue in enumerate(self.queues) for client, number in queue if (client, number) in self.accepted
+            {"client": client, "number": number, "robot": robot, "cell": self.goals[client, number], "accepted": self.accepted.get((client, number))}
+            for robot, queue in enumerate(self.queues) for client, number in queue
         ]
 
 
@@ -143,10 +142,32 @@ def spread(name, numbers):
     return {
         name + "_mean": ratio(sum(numbers), count),
         name + "_median": ordered[(count - 1) // 2] if ordered else None,
-        # the least that 19 of 20 do not exceed
-        name + "_p95": next((x for x in ordered if 20 * sum(y <= x for y in ordered) >= 19 * count), None),
+        # the least that 9 of 10, and 99 of 100, do not exceed
+        name + "_p90": next((x for x in ordered if 10 * sum(y <= x for y in ordered) >= 9 * count), None),
+        name + "_p99": next((x for x in ordered if 100 * sum(y <= x for y in ordered) >= 99 * count), None),
         name + "_greatest": last,
     }
+
+
+def delays(rows):
+    """Returns the time beyond the distances, over the errands, and the time over the distances."""
+    travel, distance = sum(row["arrived"] - row["begun"] for row in rows), sum(row["distance"] for row in rows)
+    return {"delay": ratio(travel - distance, len(rows)), "delay_ratio": ratio(travel, distance)}
+
+
+def later(floor, run, warm_up):
+    """Returns the figures after a warm-up."""
+    clock = run.first_tick + warm_up
+    ticks = [tick for tick in run.ticks if tick["tick"] > clock]
+    rows = [row for row in run.rows(floor) if row["arrived"] > clock]
+    arrivals = sum(tick["arrivals"] for tick in ticks)
+    found = {
+        "ticks": len(ticks), "arrivals": arrivals, "throughput": ratio(arrivals, len(ticks)), "errands": len(rows),
+        **spread("service", [row["arrived"] - row["accepted"] for row in rows]),
+        "distance": sum(row["distance"] for row in rows), **delays(rows),
+        "longest_wait": max((tick["longest_wait"] for tick in ticks), default=0),
+    }
+    return {name: None if value is None else str(value) for name, value in found.items()}
 
 
 def figures(floor, run):
@@ -163,10 +184,11 @@ def figures(floor, run):
         "arrivals": len(run.done), "throughput": ratio(len(run.done), count),
         "unfinished": sum(map(len, run.queues)), "errands": len(rows),
         **spread("service", [row["arrived"] - row["accepted"] for row in rows]),
-        **spread("wait", [row["arrived"] - row["begun"] for row in rows]),
-        "steps": steps, "distance": distance, "detour": ratio(steps, distance),
+        **spread("travel", [row["arrived"] - row["begun"] for row in rows]),
+        "steps": steps, "distance": distance, "detour": ratio(steps, distance), **delays(rows),
         "longest_wait": max((tick["longest_wait"] for tick in run.ticks), default=0), "wait_limit": limit,
         "idle_mean": ratio(sum(tick["idle"] for tick in run.ticks), count),
+        "under_way": ratio(sum(run.robots - tick["idle"] for tick in run.ticks), sum(run.robots for _ in run.ticks)),
         "moves": sum(tick["moves"] for tick in run.ticks), "stands": sum(len(tick["stood"]) for tick in run.ticks),
     }
     return {name: None if value is None else str(value) for name, value in found.items()}
@@ -192,9 +214,42 @@ def table(names, rows):
     return "".join(line + "\n" for line in [",".join(names), *lines])
 
 
+def as_later(warm_up):
+    return lambda floor, run: "".join(f"{name} {'none' if value is None else value}\n" for name, value in later(floor, run, warm_up).items())
+
+
+def as_later_json(warm_up):
+    return lambda floor, run: "{" + ",".join(f'"{name}":{"null" if value is None else value}' for name, value in later(floor, run, warm_up).items()) + "}\n"
+
+
 def as_errands(floor, run):
-    return table(["client", "number", "robot", "cell", "accepted", "begun", "arrived", "from", "steps", "distance"],
-                 run.rows(floor) + run.left_rows())
+    return table(["client", "number", "robot", "cell", "accepted", "begun", "arrived", "from", "steps", "distance"], run.rows(floor))
+
+
+def as_unfinished(_floor, run):
+    return table(["client", "number", "robot", "cell", "accepted"], run.left_rows())
+
+
+def by_owner(owner, floor, run):
+    """Returns a table of what the errands of each robot, or client, add up to."""
+    rows, left, count = run.rows(floor), run.left_rows(), run.robots if owner == "robot" else run.clients
+    tallies = []
+    for key in range(count):
+        own = [row for row in rows if row[owner] == key]
+        tallies.append({
+            owner: key, "errands": len(own), "unfinished": sum(row[owner] == key for row in left),
+            "service": sum(row["arrived"] - row["accepted"] for row in own), "travel": sum(row["arrived"] - row["begun"] for row in own),
+            "steps": sum(row["steps"] for row in own), "distance": sum(row["distance"] for row in own),
+        })
+    return table([owner, "errands", "unfinished", "service", "travel", "steps", "distance"], tallies)
+
+
+def as_robots(floor, run):
+    return by_owner("robot", floor, run)
+
+
+def as_clients(floor, run):
+    return by_owner("client", floor, run)
 
 
 def as_ticks(_floor, run):
@@ -211,7 +266,13 @@ def as_cells(floor, run):
 FORMS = {
     (): as_text,
     ("--json",): as_json,
+    ("--warm-up", "0"): as_later(0),
+    ("--warm-up", "7"): as_later(7),
+    ("--json", "--warm-up", "20"): as_later_json(20),
     ("--csv", "errands"): as_errands,
+    ("--csv", "unfinished"): as_unfinished,
+    ("--csv", "robots"): as_robots,
+    ("--csv", "clients"): as_clients,
     ("--csv", "ticks"): as_ticks,
     ("--csv", "cells"): as_cells,
 }

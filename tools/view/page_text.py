@@ -5,8 +5,8 @@ import pathlib
 HERE = pathlib.Path(__file__).resolve().parent
 # in this order: a part may use what is defined before it as soon as it is read
 PARTS = [
-    'read', 'graph', 'roomy', 'fault', 'changes', 'replay', 'bound', 'colours', 'place', 'heat', 'ground', 'draw', 'charts',
-    'events', 'list', 'marks', 'time', 'address', 'state', 'input', 'start',
+    'read', 'graph', 'roomy', 'fault', 'changes', 'replay', 'turns', 'bound', 'colours', 'place', 'floor', 'heat', 'ground', 'arrows', 'draw', 'charts',
+    'events', 'list', 'marks', 'time', 'address', 'state', 'input', 'placed', 'logs', 'runs', 'stamps', 'runs_view', 'runs_page', 'runs_input', 'start',
 ]
 
 
@@ -28,3 +28,9 @@ def page_of(rows, verdicts, texts):
     lines = lambda items: ''.join(f'{item}\n' for item in items)
     head, before_verdicts, before_traces, tail = pieces()
     return head + lines(rows) + before_verdicts + lines(verdicts) + before_traces + lines(texts) + tail
+
+
+def page_of_runs(rows, runs):
+    """The page of a map's rows and of the texts of runs."""
+    head, before_verdicts, before_traces, tail = pieces()
+    return head + ''.join(f'{row}\n' for row in rows) + before_verdicts + before_traces + ''.join(runs) + tail

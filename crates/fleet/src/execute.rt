@@ -18,7 +18,7 @@ const PIECE: usize = 65_536;
 const AHEAD: u32 = 10;
 
 /// The rule that the word names; none if it names no rule.
-fn clearance_asked(word: &Option<String>) -> Option<Clearance> {
+pub(crate) fn clearance_asked(word: &Option<String>) -> Option<Clearance> {
     let Some(word) = word else {
         return Some(Clearance::Arrived);
     };
@@ -32,7 +32,7 @@ fn clearance_asked(word: &Option<String>) -> Option<Clearance> {
 }
 
 /// The number that the word says, if it is one from 1; `AHEAD` if there is no word.
-fn ahead_asked(word: &Option<String>) -> Option<u32>
+pub(crate) fn ahead_asked(word: &Option<String>) -> Option<u32>
     ensures { IfSome result (λ ahead. 0 < ahead) }
 {
     let Some(word) = word else {
@@ -43,6 +43,24 @@ fn ahead_asked(word: &Option<String>) -> Option<u32>
         Ok(ahead) => Some(ahead),
         Err(_) => None,
     }
+}
+
+/// Prints that there is no such rule. Returns the status.
+pub(crate) fn complain_of_clearance<E: Write>(error: &mut E) -> u8 {
+    write_whole(
+        error,
+        b"error: invalid value for '--clearance <RULE>'\n  [possible values: arrived, started]\n",
+    );
+    2
+}
+
+/// Prints that the window has no step. Returns the status.
+pub(crate) fn complain_of_ahead<E: Write>(error: &mut E) -> u8 {
+    write_whole(
+        error,
+        b"error: invalid value for '--ahead <N>': at least 1\n",
+    );
+    2
 }
 
 /// The map and the plan, which are opened and read in their order.
@@ -65,18 +83,10 @@ pub(crate) fn execute_plan<R: Files + Alloc<A = Global>, I: Read + Drop, W: Writ
     error: &mut E,
 ) -> u8 {
     let Some(clearance) = clearance_asked(&execute.clearance) else {
-        write_whole(
-            error,
-            b"error: invalid value for '--clearance <RULE>'\n  [possible values: arrived, started]\n",
-        );
-        return 2;
+        return complain_of_clearance(error);
     };
     let Some(ahead) = ahead_asked(&execute.ahead) else {
-        write_whole(
-            error,
-            b"error: invalid value for '--ahead <N>': at least 1\n",
-        );
-        return 2;
+        return complain_of_ahead(error);
     };
     let form = match execute.form {
         FormAsked::Found => None,

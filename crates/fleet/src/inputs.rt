@@ -33,6 +33,27 @@ fn taken(alloc: Global, map: &[u8], input: Vec<u8>, plan_use: PlanUse) -> Result
     }
 }
 
+/// A text as the only trace, or what there is to say where a plan gives none.
+pub(crate) fn only_trace<'a>(
+    alloc: Global,
+    map: &[u8],
+    input: Vec<u8>,
+    plan_use: PlanUse,
+) -> Result<Inputs, FileFault<'a>>
+    requires { vec_len input ≤ 1073741824 }
+{
+    let mut traces = Vec::new(alloc);
+    match taken(alloc, map, input, plan_use)? {
+        Traced::Trace(trace) => {
+            if traces.push(trace).is_err() {
+                return Err(FileFault::NoMemory);
+            }
+            Ok(Inputs::Traces(traces))
+        }
+        Traced::Refused(said) => Ok(Inputs::Refused(said)),
+    }
+}
+
 /// The traces in the files with these names, which are opened and read in their order.
 pub(crate) fn traces_in<'a, R: Files + Alloc<A = Global>>(
     rt: &R,

@@ -34,11 +34,13 @@ mod piped;
 mod recalling;
 mod recovering;
 mod sim;
+mod sim_texts;
 mod sites;
 mod stats;
 mod streams;
 mod talk;
 mod troubles;
+mod vehicles;
 mod view;
 
 use change::run_change;
@@ -62,6 +64,7 @@ use std::fs::Files;
 use std::io::{self, ErrorKind, Write};
 use std::process::ExitCode;
 use talk::talk_in_folder;
+use vehicles::drive_vehicles;
 use view::run_view;
 
 /// The words that the program was given.
@@ -115,7 +118,10 @@ fn job_open<W: Write, E: Write>(
     error: &mut E,
 ) -> Result<Job, u8> {
     let job = job_given(rt, output, error)?;
-    let talks = matches!(&job, Job::Talk(_) | Job::Live(_) | Job::Execute(_));
+    let talks = matches!(
+        &job,
+        Job::Talk(_) | Job::Live(_) | Job::Execute(_) | Job::Vehicles(_)
+    );
     if talks && !are_open(rt, error) {
         return Err(3);
     }
@@ -141,6 +147,11 @@ fn main(rt: HostRuntime) -> ExitCode {
         Ok(Job::Execute(execute)) => {
             let mut moves = rt.stdout();
             execute_plan(&rt, &execute, (rt.stdin(), &mut moves), &mut error)
+        }
+        // Who drives vehicles is told that nothing is read of what is said.
+        Ok(Job::Vehicles(asked)) => {
+            let mut said = rt.stdout();
+            drive_vehicles(&rt, &asked, (rt.stdin(), &mut said), &mut error)
         }
         Ok(Job::Live(live)) => {
             let name = live.traces.as_deref();

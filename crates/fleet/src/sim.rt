@@ -1,14 +1,14 @@
 //! The word `sim`.
 
 use crate::chapters::keep_chapter;
-use crate::ends::{FileFault, MOST_MAP_BYTES, complain, file_bytes};
-use fleet_hooks::{ArrivalHook, Farewell, Hooks, TieHook};
+use crate::ends::{FileFault, complain};
+use crate::sim_texts::{SimTexts, sources, texts_of};
+use fleet_hooks::{ArrivalHook, Farewell, Hooks, TieHook, TieLaw, TieView};
 use fleet_lib::{
-    InputFault, MOST_PLAN_BYTES, Played, Said, SimJob, SimPlan, SimRun, SimTrouble, answer_sim,
-    answer_trouble, complain_of_sim, end_sim, fail, open_sim, sim_plan, tell, trace_line,
-    trouble_of,
+    InputFault, Played, Said, SimJob, SimPlan, SimRun, SimTrouble, answer_sim, answer_trouble,
+    complain_of_sim, end_sim, fail, open_sim, sim_plan, tell, trace_line, trouble_of,
 };
-use fleet_sim::{Line, Run, Sim, SimFault, Times, line_of};
+use fleet_sim::{Line, Run, Sim, SimFault, Ties, Times, line_of, random_rank};
 use fleet_stats::ranked;
 use std::alloc::{Alloc, AllocError, Global};
 use std::fs::Files;
@@ -28,31 +28,11 @@ impl<'a> From<AllocError> for Failure<'a> {
     }
 }
 
-/// The texts of an experiment.
-#[derive(Drop)]
-struct SimTexts {
-    map: Vec<u8>,
-    cells: Option<Vec<u8>>,
-}
-
 /// What was measured of the steps of a run.
 #[derive(Drop)]
 struct Measured {
     steps: Vec<u64>,
     planning: u64,
-}
-
-/// The files of the words, which are opened and read in their order.
-fn texts_of<'a, R: Files + Alloc<A = Global>>(
-    rt: &R,
-    asked: &'a SimJob,
-) -> Result<SimTexts, FileFault<'a>> {
-    let map = file_bytes(rt, asked.map.as_str(), MOST_MAP_BYTES)?;
-    let cells = match &asked.cells {
-        Some(name) => Some(file_bytes(rt, name.as_str(), MOST_PLAN_BYTES)?),
-        None => None,
-    };
-    Ok(SimTexts { map, cells })
 }
 
 /// Adds an item.
@@ -126,8 +106,25 @@ fn times_of(measured: Measured, timed: bool) -> Option<Times> {
     }
 }
 
-/// Makes a run.
-fn run_of<R: Alloc<A = Global> + Clock>(
+/// Plays a run, and ends it.
+fn played<R: Alloc<A = Global> + Clock>(
+    rt: &R,
+    sim: Sim,
+    plan: &SimPlan,
+    robots: u32,
+    timed: bool,
+) -> Result<(Played, Option<Times>), SimTrouble> {
+    let mut sim = sim;
+    let measured = play(rt, &mut sim, plan, timed);
+    let played = end_sim(rt.alloc(), sim, u64::from(plan.warm_up));
+    match measured {
+        Ok(measured) => Ok((played?, times_of(measured, timed))),
+        Err(fault) => Err(trouble_of(robots, fault)),
+    }
+}
+
+/// Makes a run whose ties are decided by the direction.
+fn plain_run<R: Alloc<A = Global> + Clock>(
     rt: &R,
     texts: &SimTexts,
     plan: &SimPlan,
@@ -137,12 +134,42 @@ fn run_of<R: Alloc<A = Global> + Clock>(
     let alloc = rt.alloc();
     let (tie, arrival) = (TieHook::fixed([0; 4]), ArrivalHook::fixed(0));
     let hooks = Hooks::alike(alloc, run.robots as usize, tie, arrival, Farewell::fixed(0))?;
-    let mut sim = open_sim(alloc, &texts.map, texts.cells.as_deref(), run, hooks)?;
-    let measured = play(rt, &mut sim, plan, timed);
-    let played = end_sim(alloc, sim, u64::from(plan.warm_up));
-    match measured {
-        Ok(measured) => Ok((played?, times_of(measured, timed))),
-        Err(fault) => Err(trouble_of(run.robots, fault)),
+    let sim = open_sim(alloc, &texts.map, sources(texts), run, hooks)?;
+    played(rt, sim, plan, run.robots, timed)
+}
+
+/// Makes a run whose ties are decided by random ranks.
+fn random_run<R: Alloc<A = Global> + Clock>(
+    rt: &R,
+    texts: &SimTexts,
+    plan: &SimPlan,
+    run: SimRun,
+    timed: bool,
+) -> Result<(Played, Option<Times>), SimTrouble> {
+    let (alloc, seed) = (rt.alloc(), run.seed);
+    let mut hooks = Hooks::new(alloc);
+    for _ in 0..run.robots {
+        let Ok(rank) = Box::new(alloc, move |view: TieView| random_rank(seed, view)) else {
+            return Err(SimTrouble::NoMemory);
+        };
+        let tie = TieHook::new(TieLaw::ANY, rank);
+        hooks.push(tie, ArrivalHook::fixed(0), Farewell::fixed(0))?;
+    }
+    let sim = open_sim(alloc, &texts.map, sources(texts), run, hooks)?;
+    played(rt, sim, plan, run.robots, timed)
+}
+
+/// Makes a run.
+fn run_of<R: Alloc<A = Global> + Clock>(
+    rt: &R,
+    texts: &SimTexts,
+    plan: &SimPlan,
+    run: SimRun,
+    timed: bool,
+) -> Result<(Played, Option<Times>), SimTrouble> {
+    match plan.ties {
+        Ties::Plain => plain_run(rt, texts, plan, run, timed),
+        Ties::Random => random_run(rt, texts, plan, run, timed),
     }
 }
 
@@ -214,7 +241,7 @@ fn table_of<'a, R: Files + Alloc<A = Global> + Clock>(
 }
 
 /// Prints a table of experiments. Returns the status: 0 good, 2 words that ask for none, 3 a file failed, 4 the map or 5
-/// the list of cells is refused, 6 a run that does not go on, 7 memory ran out.
+/// the list of cells, the scenario or the list of tasks is refused, 6 a run that does not go on, 7 memory ran out.
 pub(crate) fn run_sim<R: Files + Alloc<A = Global> + Clock, W: Write, E: Write>(
     rt: &R,
     asked: &SimJob,

@@ -26,6 +26,7 @@ use Rattle.fleet_lib.specs.declared.words.stats.Stats.{Stats as StatsJob}
 use Rattle.fleet_lib.specs.declared.words.judge.Judge.{Judge as JudgeJob}
 use Rattle.fleet_lib.specs.declared.words.map.MapJob.{MapJob}
 use Rattle.fleet_lib.specs.declared.words.execute.Execute.{Execute as ExecuteJob}
+use Rattle.fleet_lib.specs.declared.words.vehicles.VehiclesJob.{VehiclesJob}
 use Rattle.fleet_lib.specs.declared.words.sim.SimJob.{SimJob}
 use Rattle.fleet_lib.specs.declared.words.change.ChangeJob.{ChangeJob}
 use Rattle.fleet_lib.specs.declared.words.job.Job.{Job}
@@ -147,6 +148,9 @@ pub record IsLive (rows : List Row) (live : LiveJob) : Type 0 where
 abbrev pub table_named : Text → Option Figures
 table_named word =
     if bytes_eq word (codes "errands") then Some figures.Errands
+    else if bytes_eq word (codes "unfinished") then Some figures.Unfinished
+    else if bytes_eq word (codes "robots") then Some figures.Robots
+    else if bytes_eq word (codes "clients") then Some figures.Clients
     else if bytes_eq word (codes "ticks") then Some figures.Ticks
     else if bytes_eq word (codes "cells") then Some figures.Cells
     else None
@@ -166,6 +170,7 @@ pub record IsStats (rows : List Row) (stats : StatsJob) : Type 0 where
   pub floor : first_of (codes "MAP") rows ≡ Some (string_bytes stats.map)
   pub traces : all_of (codes "TRACE") rows ≡ Some (map (λ s. string_bytes s) stats.traces.items)
   pub figures : stats.figures ≡ figures_in rows
+  pub warm_up : first_of (codes "warm-up") rows ≡ option_map (λ s. string_bytes s) stats.warm_up
 
 -- what the words after `judge` ask for
 pub record IsJudge (rows : List Row) (judge : JudgeJob) : Type 0 where
@@ -212,12 +217,20 @@ pub record IsSimJob (rows : List Row) (asked : SimJob) : Type 0 where
   pub warm_up : first_of (codes "warm-up") rows ≡ option_map (λ s. string_bytes s) asked.warm_up
   pub seeds : first_of (codes "seeds") rows ≡ option_map (λ s. string_bytes s) asked.seeds
   pub cells : first_of (codes "cells") rows ≡ option_map (λ s. string_bytes s) asked.cells
+  pub scenario : first_of (codes "scen") rows ≡ option_map (λ s. string_bytes s) asked.scenario
+  pub tasks : first_of (codes "tasks") rows ≡ option_map (λ s. string_bytes s) asked.tasks
   pub roomy : asked.roomy ≡ has_flag (codes "roomy") rows
   pub planner : first_of (codes "planner") rows ≡ option_map (λ s. string_bytes s) asked.planner
+  pub ties : first_of (codes "ties") rows ≡ option_map (λ s. string_bytes s) asked.ties
   pub traces : first_of (codes "traces") rows ≡ option_map (λ s. string_bytes s) asked.traces
   pub times : asked.times ≡ has_flag (codes "times") rows
   pub csv : asked.csv ≡ has_flag (codes "csv") rows
   pub json : asked.json ≡ has_flag (codes "json") rows
+
+-- what the words after `vehicles` ask for
+pub record IsVehicles (rows : List Row) (asked : VehiclesJob) : Type 0 where
+  pub clearance : first_of (codes "clearance") rows ≡ option_map (λ s. string_bytes s) asked.clearance
+  pub ahead : first_of (codes "ahead") rows ≡ option_map (λ s. string_bytes s) asked.ahead
 
 -- the job of a subcommand and the words that stand for its arguments
 abbrev pub IsJobOf : Option (Text × List Row) → Job → Type 0
@@ -233,3 +246,4 @@ IsJobOf found (job.Map asked) = (rows : List Row) × (found ≡ Some (codes "map
 IsJobOf found (job.Execute execute) = (rows : List Row) × (found ≡ Some (codes "execute", rows)) × IsExecute rows execute
 IsJobOf found (job.Sim asked) = (rows : List Row) × (found ≡ Some (codes "sim", rows)) × IsSimJob rows asked
 IsJobOf found (job.Change change) = (rows : List Row) × (found ≡ Some (codes "change", rows)) × IsChange rows change
+IsJobOf found (job.Vehicles asked) = (rows : List Row) × (found ≡ Some (codes "vehicles", rows)) × IsVehicles rows asked

@@ -34,10 +34,10 @@ live_app = with_rules (new_app (codes "live"))
     ∷ flag_rule (codes "watch") ∷ flag_rule (codes "service") ∷ flag_rule (codes "roomy") ∷ value_rule (codes "planner") ∷ value_rule (codes "traces") ∷ flag_rule (codes "resume") ∷ flag_rule (codes "resume-only")
     ∷ value_rule (codes "keep-every") ∷ flag_rule (codes "journal") ∷ value_rule (codes "recall") ∷ value_rule (codes "chapter-bytes") ∷ value_rule (codes "metrics") ∷ file_rule (codes "MAP") ∷ new_rule (codes "SCRIPT") ∷ [])
 
--- stats [--json] [--csv TABLE] MAP TRACE..
+-- stats [--json] [--csv TABLE] [--warm-up N] MAP TRACE..
 abbrev pub stats_app : App
 stats_app = with_rules (new_app (codes "stats"))
-    (flag_rule (codes "json") ∷ value_rule (codes "csv") ∷ file_rule (codes "MAP") ∷ files_rule (codes "TRACE") ∷ [])
+    (flag_rule (codes "json") ∷ value_rule (codes "csv") ∷ value_rule (codes "warm-up") ∷ file_rule (codes "MAP") ∷ files_rule (codes "TRACE") ∷ [])
 
 -- judge MAP TRACE..
 abbrev pub judge_app : App
@@ -53,20 +53,24 @@ abbrev pub execute_app : App
 execute_app = with_rules (new_app (codes "execute"))
     (value_rule (codes "clearance") ∷ number_rule (codes "ahead") ∷ value_rule (codes "form") ∷ file_rule (codes "MAP") ∷ file_rule (codes "PLAN") ∷ [])
 
--- sim --robots LIST --ticks N [--warm-up N] [--seeds N] [--cells FILE] [--roomy] [--planner NAME] [--traces DIR] [--times] [--csv] [--json] MAP
+-- sim --robots LIST --ticks N [--warm-up N] [--seeds N] [--cells FILE] [--scen FILE] [--tasks FILE] [--roomy] [--planner NAME] [--ties NAME] [--traces DIR] [--times] [--csv] [--json] MAP
 abbrev pub sim_app : App
 sim_app = with_rules (new_app (codes "sim"))
-    (value_rule (codes "robots") ∷ value_rule (codes "ticks") ∷ value_rule (codes "warm-up") ∷ value_rule (codes "seeds") ∷ value_rule (codes "cells") ∷ flag_rule (codes "roomy") ∷ value_rule (codes "planner")
-    ∷ value_rule (codes "traces") ∷ flag_rule (codes "times") ∷ flag_rule (codes "csv") ∷ flag_rule (codes "json") ∷ file_rule (codes "MAP") ∷ [])
+    (value_rule (codes "robots") ∷ value_rule (codes "ticks") ∷ value_rule (codes "warm-up") ∷ value_rule (codes "seeds") ∷ value_rule (codes "cells") ∷ value_rule (codes "scen") ∷ value_rule (codes "tasks")
+    ∷ flag_rule (codes "roomy") ∷ value_rule (codes "planner") ∷ value_rule (codes "ties") ∷ value_rule (codes "traces") ∷ flag_rule (codes "times") ∷ flag_rule (codes "csv") ∷ flag_rule (codes "json") ∷ file_rule (codes "MAP") ∷ [])
 
 -- change --traces DIR --to OUT [--renumber] [--dry-run] MAP CHANGE..
 abbrev pub change_app : App
 change_app = with_rules (new_app (codes "change"))
     (required_value_rule (codes "traces") ∷ required_value_rule (codes "to") ∷ flag_rule (codes "renumber") ∷ flag_rule (codes "dry-run") ∷ file_rule (codes "MAP") ∷ files_rule (codes "CHANGE") ∷ [])
 
+-- vehicles [--clearance RULE] [--ahead N]
+abbrev pub vehicles_app : App
+vehicles_app = with_rules (new_app (codes "vehicles")) (value_rule (codes "clearance") ∷ number_rule (codes "ahead") ∷ [])
+
 -- the words of fleet
 abbrev pub word_apps : List App
-word_apps = view_app ∷ check_app ∷ talk_app ∷ convert_app ∷ explain_app ∷ live_app ∷ stats_app ∷ judge_app ∷ map_app ∷ execute_app ∷ sim_app ∷ change_app ∷ []
+word_apps = view_app ∷ check_app ∷ talk_app ∷ convert_app ∷ explain_app ∷ live_app ∷ stats_app ∷ judge_app ∷ map_app ∷ execute_app ∷ sim_app ∷ change_app ∷ vehicles_app ∷ []
 
 -- fleet, which tells its version and wants a word
 abbrev pub fleet_app : App

@@ -19,3 +19,4 @@ pub mod Execute
 pub mod Length
 pub mod Planner
 pub mod Sim
+pub mod Runs

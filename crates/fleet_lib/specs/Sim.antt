@@ -31,7 +31,9 @@ sim_word_status word.Robots = 2
 sim_word_status word.Ticks = 2
 sim_word_status word.WarmUp = 2
 sim_word_status word.Seeds = 2
+sim_word_status word.Sources = 2
 sim_word_status word.Planner = 2
+sim_word_status word.Ties = 2
 sim_word_status word.Form = 2
 sim_word_status word.NoMemory = 7
 
@@ -39,6 +41,9 @@ sim_word_status word.NoMemory = 7
 abbrev pub trouble_text : SimTrouble → List ℕ
 trouble_text (trouble.Map f) = complaint_text (complaint.Map f)
 trouble_text (trouble.Cells line) = codes "cells " ++ decimal line
+trouble_text (trouble.Scenario line) = codes "scenario " ++ decimal line
+trouble_text (trouble.Tasks line) = codes "tasks " ++ decimal line
+trouble_text trouble.Starts = codes "starts"
 trouble_text (trouble.Floor robots) = codes "robots " ++ decimal robots ++ codes " too many for the floor"
 trouble_text trouble.Turns = codes "turns"
 trouble_text trouble.Full = codes "history full"
@@ -49,6 +54,9 @@ trouble_text trouble.NoMemory = codes "memory"
 abbrev pub trouble_status : SimTrouble → ℕ
 trouble_status (trouble.Map f) = 4
 trouble_status (trouble.Cells line) = 5
+trouble_status (trouble.Scenario line) = 5
+trouble_status (trouble.Tasks line) = 5
+trouble_status trouble.Starts = 5
 trouble_status (trouble.Floor robots) = 4
 trouble_status trouble.Turns = 6
 trouble_status trouble.Full = 6

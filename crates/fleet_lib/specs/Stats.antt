@@ -1,5 +1,7 @@
 -- The result of the word `stats`.
-use Rattle.std.specs.Prelude.{◌≡◌, ℕ, ◌-◌, List, [], ◌++◌, codes, decimal}
+use Rattle.std.specs.Prelude.{◌≡◌, ℕ, ◌-◌, ◌^◌, min, List, [], ◌++◌, Option, Some, None, codes, decimal}
+use Rattle.std.specs.Option.{option_map, option_and_then}
+use Rattle.fleet_map.specs.Text.{number_of}
 use Rattle.std.specs.List.{slice_index_or}
 use Rattle.fleet_text.specs.declared.said.Complaint.TheVariants as complaint
 use Rattle.fleet_text.specs.Complaint.{complaint_text}
@@ -17,8 +19,30 @@ abbrev pub form_of : Figures → StatsForm
 form_of figures.Lines = form.Text
 form_of figures.Json = form.Json
 form_of figures.Errands = form.Errands
+form_of figures.Unfinished = form.Unfinished
+form_of figures.Robots = form.Robots
+form_of figures.Clients = form.Clients
 form_of figures.Ticks = form.Ticks
 form_of figures.Cells = form.Cells
+
+-- with a warm-up of this many ticks there are no tables
+abbrev pub later_form : Figures → ℕ → Option StatsForm
+later_form figures.Lines ticks = Some (form.TextAfter ticks)
+later_form figures.Json ticks = Some (form.JsonAfter ticks)
+later_form _ ticks = None
+
+-- the same, where a word says how many ticks; no run has more than 2^48
+abbrev pub later_by : Figures → List ℕ → Option StatsForm
+later_by f word = option_and_then (later_form f) (option_map (λ n. min n (2 ^ 48)) (number_of word))
+
+abbrev pub form_by : Option (List ℕ) → Figures → Option StatsForm
+form_by None f = Some (form_of f)
+form_by (Some word) f = later_by f word
+
+-- what is asked for, by the table and the warm-up
+abbrev pub stats_form : Option Figures → Option (List ℕ) → Option StatsForm
+stats_form None warm_up = None
+stats_form (Some f) warm_up = form_by warm_up f
 
 -- the name of the file with this number, from 1
 abbrev pub name_at : List (List ℕ) → ℕ → List ℕ
@@ -47,6 +71,6 @@ abbrev pub faulty : List (List ℕ) → StatsFault → Outcome
 faulty names f = record { output = []; status = fault_status f; complaint = codes "fleet: " ++ (fault_text names f ++ codes "\n") }
 
 -- what is said to a map and to traces on it, in files of these names
-pub data IsStatsOutcome (figures : Figures) (names : List (List ℕ)) (map : List ℕ) (traces : List (List ℕ)) (o : Outcome) : Type 0 where
-  good : (text : List ℕ) → IsStats (form_of figures) map traces text → o ≡ record { output = text; status = 0; complaint = [] } → IsStatsOutcome figures names map traces o
-  refused : (f : StatsFault) → IsNone map traces f → o ≡ faulty names f → IsStatsOutcome figures names map traces o
+pub data IsStatsOutcome (what : StatsForm) (names : List (List ℕ)) (map : List ℕ) (traces : List (List ℕ)) (o : Outcome) : Type 0 where
+  good : (text : List ℕ) → IsStats what map traces text → o ≡ record { output = text; status = 0; complaint = [] } → IsStatsOutcome what names map traces o
+  refused : (f : StatsFault) → IsNone map traces f → o ≡ faulty names f → IsStatsOutcome what names map traces o

@@ -20,7 +20,7 @@ pub enum Traced {
 }
 
 /// The answer to a plan that gives no trace.
-fn plan_refused(alloc: Global, answer: PlanAnswer) -> Result<Said, AllocError>
+pub(crate) fn plan_refused(alloc: Global, answer: PlanAnswer) -> Result<Said, AllocError>
     ensures { IfOk result (λ s. said_of s ≡ plan_refused answer) }
 {
     match answer {

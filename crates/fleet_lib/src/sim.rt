@@ -6,7 +6,7 @@ ghost use Rattle.fleet_lib.specs.Sim.{IsSimPlan, sim_word_status};
 use crate::planner::manner_in;
 use crate::words::SimJob;
 use fleet_map::text::number_up_to;
-use fleet_sim::TableForm;
+use fleet_sim::{TableForm, Ties};
 use fleet_talk::Manner;
 use fleet_text::write_whole;
 use std::alloc::{AllocError, Global};
@@ -29,8 +29,12 @@ pub enum SimWordFault {
     WarmUp,
     /// `--seeds` with no number from 1 to 1,000.
     Seeds,
+    /// More than one of `--cells`, `--scen` and `--tasks`.
+    Sources,
     /// `--planner` with a word that names no planner.
     Planner,
+    /// `--ties` with a word that names none.
+    Ties,
     /// Both `--csv` and `--json`.
     Form,
     /// Memory ran out.
@@ -57,6 +61,7 @@ pub struct SimPlan {
     pub warm_up: u32,
     pub seeds: u32,
     pub manner: Manner,
+    pub ties: Ties,
     pub form: TableForm,
 }
 
@@ -113,6 +118,21 @@ fn robots_in(alloc: Global, word: &[u8]) -> Result<Vec<u32>, SimWordFault> {
     Ok(robots)
 }
 
+/// How many sources of errands the words name.
+fn source_count(asked: &SimJob) -> u8 {
+    u8::from(asked.cells.is_some())
+        + u8::from(asked.scenario.is_some())
+        + u8::from(asked.tasks.is_some())
+}
+
+/// The ties of a word, and plain ones without a word; `None` if it names none.
+fn ties_in(word: &Option<String>) -> Option<Ties> {
+    match word {
+        None => Some(Ties::Plain),
+        Some(word) => Ties::named(word.as_str()),
+    }
+}
+
 /// The form of the table; `None` if two are asked for.
 fn form_in(csv: bool, json: bool) -> Option<TableForm> {
     match (csv, json) {
@@ -124,7 +144,7 @@ fn form_in(csv: bool, json: bool) -> Option<TableForm> {
 }
 
 /// The experiments that the words ask for. Refused in this order: the numbers of robots, of ticks, of ticks before them, of
-/// seeds, the planner, two forms; memory may run out in between.
+/// seeds, two sources of errands, the planner, the ties, two forms; memory may run out in between.
 pub fn sim_plan(alloc: Global, asked: &SimJob) -> Result<SimPlan, SimWordFault>
     ensures { IfOk result IsSimPlan }
 {
@@ -142,8 +162,14 @@ pub fn sim_plan(alloc: Global, asked: &SimJob) -> Result<SimPlan, SimWordFault>
     let Some(seeds) = number_or(&asked.seeds, 1, MOST_SEEDS) else {
         return Err(SimWordFault::Seeds);
     };
+    if source_count(asked) > 1 {
+        return Err(SimWordFault::Sources);
+    }
     let Some(manner) = manner_in(&asked.planner) else {
         return Err(SimWordFault::Planner);
+    };
+    let Some(ties) = ties_in(&asked.ties) else {
+        return Err(SimWordFault::Ties);
     };
     let Some(form) = form_in(asked.csv, asked.json) else {
         return Err(SimWordFault::Form);
@@ -154,6 +180,7 @@ pub fn sim_plan(alloc: Global, asked: &SimJob) -> Result<SimPlan, SimWordFault>
         warm_up,
         seeds,
         manner,
+        ties,
         form,
     })
 }
@@ -167,7 +194,9 @@ fn word_status(fault: SimWordFault) -> u8
         SimWordFault::Ticks => 2,
         SimWordFault::WarmUp => 2,
         SimWordFault::Seeds => 2,
+        SimWordFault::Sources => 2,
         SimWordFault::Planner => 2,
+        SimWordFault::Ties => 2,
         SimWordFault::Form => 2,
         SimWordFault::NoMemory => 7,
     }
@@ -184,7 +213,11 @@ pub fn complain_of_sim<E: Write>(fault: SimWordFault, error: &mut E) -> u8
         SimWordFault::Ticks => "error: '--ticks <N>' has to be given, and is from 1 to 1000000\n",
         SimWordFault::WarmUp => "error: invalid value for '--warm-up <N>'\n",
         SimWordFault::Seeds => "error: '--seeds <N>' is from 1 to 1000\n",
+        SimWordFault::Sources => {
+            "error: '--cells', '--scen' and '--tasks' go without each other\n"
+        }
         SimWordFault::Planner => "error: invalid value for '--planner <NAME>'\n",
+        SimWordFault::Ties => "error: invalid value for '--ties <NAME>'\n",
         SimWordFault::Form => "error: '--csv' and '--json' go without each other\n",
         SimWordFault::NoMemory => "fleet: memory\n",
     };

@@ -6,12 +6,12 @@ ghost use Rattle.fleet_lib.specs.Sim.{IsFloorOf, IsPlayed, trouble_status, troub
 
 use crate::check::{printed, refused};
 use crate::said::Said;
+use crate::sources::{SimSources, Sources, sources_of};
 use fleet_grid::Grid;
 use fleet_hooks::Hooks;
 use fleet_map::{MapFault, read_map};
 use fleet_sim::{Ended, Line, Setting, Sim, SimFault, TableForm, table_text};
 use fleet_stats::{LaterFigures, StatsFault, figures_after};
-use fleet_survey::{CellsFault, read_cells};
 use fleet_talk::Manner;
 use fleet_text::Complaint;
 use std::alloc::{AllocError, Global};
@@ -33,6 +33,12 @@ pub enum SimTrouble {
     Map(MapFault),
     /// This line of the list of cells has a word that is no floor cell.
     Cells(u64),
+    /// This line of the scenario is not allowed where it is.
+    Scenario(u64),
+    /// This line of the list of tasks is not allowed where it is.
+    Tasks(u64),
+    /// The starts of the scenario are not distinct floor cells, one for each robot.
+    Starts,
     /// The map has fewer floor cells than robots.
     Floor(u32),
     /// The robots cannot take turns on this map.
@@ -67,6 +73,7 @@ pub fn trouble_of(robots: u32, fault: SimFault) -> SimTrouble {
     match fault {
         // A number that is not from 1 to 512 is no word of `--robots`.
         SimFault::Robots | SimFault::Floor => SimTrouble::Floor(robots),
+        SimFault::Starts => SimTrouble::Starts,
         SimFault::Turns => SimTrouble::Turns,
         SimFault::Full => SimTrouble::Full,
         SimFault::NoMemory => SimTrouble::NoMemory,
@@ -84,43 +91,25 @@ fn grid_of(alloc: Global, map: &[u8]) -> Result<Grid, SimTrouble>
     }
 }
 
-/// The cells of a list, if there is one.
-fn stations_of(
-    alloc: Global,
-    grid: &Grid,
-    cells: Option<&[u8]>,
-) -> Result<Option<Vec<u32>>, SimTrouble> {
-    match cells {
-        Some(text) => match read_cells(alloc, grid, text) {
-            Ok(listed) => Ok(Some(listed)),
-            Err(CellsFault::Line(line)) => Err(SimTrouble::Cells(line)),
-            Err(CellsFault::NoMemory) => Err(SimTrouble::NoMemory),
-        },
-        None => Ok(None),
-    }
-}
-
-/// The run on a grid, with the cells of a list.
+/// The run on a grid.
 fn sim_on(
     alloc: Global,
     grid: Grid,
-    stations: &Option<Vec<u32>>,
+    sources: &Sources,
     run: SimRun,
     hooks: Hooks,
 ) -> Result<Sim, SimTrouble>
     requires { 0 ≤ vec_len hooks.ties }
     ensures { IfOk result (λ s. s.world.core.floor ≡ grid) }
 {
-    let stations = match stations {
-        Some(listed) => Some(listed.as_slice()),
-        None => None,
-    };
     let setting = Setting {
         robots: run.robots,
         seed: run.seed,
         manner: run.manner,
         roomy: run.roomy,
-        stations,
+        stations: sources.stations.as_deref(),
+        starts: sources.starts.as_deref(),
+        tasks: sources.tasks.as_deref(),
     };
     match Sim::open(alloc, grid, setting, hooks) {
         Ok(sim) => Ok(sim),
@@ -128,14 +117,14 @@ fn sim_on(
     }
 }
 
-/// Opens a run on the map of a text, with errands to the cells of a list, if there is one. There are hooks for its robots.
+/// Opens a run on the map of a text, with the errands that the other texts say. There are hooks for its robots.
 ///
-/// Refused in this order: no map, a line of the list that names no floor cells, fewer floor cells than robots, no turns on
-/// this map; memory may run out in between.
+/// Refused in this order: no map, a line of the list, of the scenario, of the tasks that is not allowed, fewer floor cells
+/// than robots, starts that are not distinct floor cells, no turns on this map; memory may run out in between.
 pub fn open_sim(
     alloc: Global,
     map: &[u8],
-    cells: Option<&[u8]>,
+    sources: SimSources<'_>,
     run: SimRun,
     hooks: Hooks,
 ) -> Result<Sim, SimTrouble>
@@ -150,8 +139,8 @@ pub fn open_sim(
             return Err(trouble);
         }
     };
-    match stations_of(alloc, &grid, cells) {
-        Ok(stations) => sim_on(alloc, grid, &stations, run, hooks),
+    match sources_of(alloc, &grid, sources) {
+        Ok(sources) => sim_on(alloc, grid, &sources, run, hooks),
         Err(trouble) => {
             mem::drop(hooks);
             mem::drop(grid);
@@ -182,6 +171,9 @@ fn trouble_text(alloc: Global, trouble: SimTrouble) -> Result<String, AllocError
             format!(in alloc; "{complaint}")
         }
         SimTrouble::Cells(line) => format!(in alloc; "cells {line}"),
+        SimTrouble::Scenario(line) => format!(in alloc; "scenario {line}"),
+        SimTrouble::Tasks(line) => format!(in alloc; "tasks {line}"),
+        SimTrouble::Starts => String::from_str(alloc, "starts"),
         SimTrouble::Floor(robots) => format!(in alloc; "robots {robots} too many for the floor"),
         SimTrouble::Turns => String::from_str(alloc, "turns"),
         SimTrouble::Full => String::from_str(alloc, "history full"),
@@ -198,6 +190,9 @@ fn trouble_status(trouble: SimTrouble) -> u8
         SimTrouble::Map(_) => 4,
         SimTrouble::Floor(_) => 4,
         SimTrouble::Cells(_) => 5,
+        SimTrouble::Scenario(_) => 5,
+        SimTrouble::Tasks(_) => 5,
+        SimTrouble::Starts => 5,
         SimTrouble::Turns => 6,
         SimTrouble::Full => 6,
         SimTrouble::Illegal => 6,

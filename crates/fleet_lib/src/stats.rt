@@ -1,16 +1,21 @@
 //! The word `stats`.
 
 ghost use Rattle.std.specs.Prelude.{◌≡◌, [], map, IfOk, string_bytes};
+ghost use Rattle.std.specs.Option.{option_map};
 ghost use Rattle.fleet_lib.specs.Said.{said_of};
-ghost use Rattle.fleet_lib.specs.Stats.{IsStatsOutcome, fault_status, fault_text, faulty, form_of, name_at};
+ghost use Rattle.fleet_lib.specs.Stats.{IsStatsOutcome, fault_status, fault_text, faulty, form_of, later_by, later_form, name_at, stats_form};
 
 use crate::said::Said;
-use crate::words::Figures;
+use crate::words::{Figures, Stats};
+use fleet_map::text::number_up_to;
 use fleet_stats::{StatsFault, StatsForm, stats};
 use fleet_text::Complaint;
 use std::alloc::{AllocError, Global};
 
-/// What is asked for.
+/// No run has more ticks.
+const MOST_WARM_UP: u64 = 281_474_976_710_656;
+
+/// What is asked for without a warm-up.
 fn form_of(figures: Figures) -> StatsForm
     ensures { result ≡ form_of figures }
 {
@@ -18,8 +23,42 @@ fn form_of(figures: Figures) -> StatsForm
         Figures::Lines => StatsForm::Text,
         Figures::Json => StatsForm::Json,
         Figures::Errands => StatsForm::Errands,
+        Figures::Unfinished => StatsForm::Unfinished,
+        Figures::Robots => StatsForm::Robots,
+        Figures::Clients => StatsForm::Clients,
         Figures::Ticks => StatsForm::Ticks,
         Figures::Cells => StatsForm::Cells,
+    }
+}
+
+/// What is asked for with a warm-up of this many ticks; `None` with a table.
+fn later_form(figures: Figures, warm_up: u64) -> Option<StatsForm>
+    ensures { result ≡ later_form figures warm_up }
+{
+    match figures {
+        Figures::Lines => Some(StatsForm::TextAfter(warm_up)),
+        Figures::Json => Some(StatsForm::JsonAfter(warm_up)),
+        _ => None,
+    }
+}
+
+/// The same, where a word says how many ticks.
+fn later_by(figures: Figures, word: &[u8]) -> Option<StatsForm>
+    ensures { result ≡ later_by figures word.now }
+{
+    let ticks = number_up_to(word, MOST_WARM_UP)?;
+    later_form(figures, ticks)
+}
+
+/// What the words ask for; `None` if they name no table or a table with JSON or a warm-up, or a warm-up that is not a
+/// number of ticks.
+pub fn stats_form(asked: &Stats) -> Option<StatsForm>
+    ensures { result ≡ stats_form asked.now.figures (option_map (λ s. string_bytes s) asked.now.warm_up) }
+{
+    let figures = asked.figures?;
+    match &asked.warm_up {
+        None => Some(form_of(figures)),
+        Some(word) => later_by(figures, word.as_bytes()),
     }
 }
 
@@ -100,14 +139,14 @@ fn good(alloc: Global, text: &str) -> Result<Said, AllocError>
 /// The answer to a map and to traces on it, in files of these names.
 pub fn answer_stats(
     alloc: Global,
-    figures: Figures,
+    form: StatsForm,
     names: &[String],
     bytes: &[u8],
     traces: &[Vec<u8>],
 ) -> Result<Said, AllocError>
-    ensures { IfOk result (λ s. IsStatsOutcome figures (map (λ name. string_bytes name) names.now) bytes.now (map (λ t. t.items) traces.now) (said_of s)) }
+    ensures { IfOk result (λ s. IsStatsOutcome form (map (λ name. string_bytes name) names.now) bytes.now (map (λ t. t.items) traces.now) (said_of s)) }
 {
-    match stats(alloc, form_of(figures), bytes, traces) {
+    match stats(alloc, form, bytes, traces) {
         Ok(text) => good(alloc, text.as_str()),
         Err(fault) => faulty(alloc, names, fault),
     }

@@ -52,7 +52,7 @@ fn status_of(fault: ViewFault) -> u8
 }
 
 /// The answer if nothing can be shown.
-fn faulty(alloc: Global, fault: ViewFault) -> Result<Said, AllocError>
+pub(crate) fn faulty(alloc: Global, fault: ViewFault) -> Result<Said, AllocError>
     ensures { IfOk result (λ s. said_of s ≡ faulty fault) }
 {
     let text = FaultText(fault);

@@ -15,6 +15,7 @@ mod program;
 mod sim;
 mod stats;
 mod talk;
+mod vehicles;
 mod view;
 
 pub use change::ChangeJob;
@@ -31,4 +32,5 @@ pub(crate) use program::VERSION;
 pub use sim::SimJob;
 pub use stats::{Figures, Stats};
 pub use talk::Talk;
+pub use vehicles::VehiclesJob;
 pub use view::{Shown, View};

@@ -51,4 +51,5 @@ pub use misspelt::{KnownKey, Misspelt, first_misspelt};
 pub use placements::Placements;
 pub use report::PlanReport;
 pub use runners::{RunnersFault, RunnersKey};
+pub use scenario::{Scenario, scenario_on};
 pub use study::{Study, study_form, study_texts};

@@ -9,8 +9,10 @@ use crate::cells::coordinate_of;
 use crate::fault::PlanTextFault;
 use crate::limit::MOST_PLAN_BYTES;
 use crate::misspelt::word_of;
+use crate::movers::sides_of;
 use crate::places::is_number;
 use crate::sides::Sides;
+use fleet_grid::Grid;
 use fleet_history::Row;
 use fleet_map::text::{first_line, first_word};
 use std::alloc::Global;
@@ -22,11 +24,11 @@ pub(crate) struct Trip {
     goal: u32,
 }
 
-/// The robots' starts and goals, by number.
+/// The robots' starts and goals, by number. A cell outside of the map is `u32::MAX`.
 #[derive(Drop)]
-pub(crate) struct Scenario {
-    pub(crate) starts: Row<u32>,
-    pub(crate) goals: Row<u32>,
+pub struct Scenario {
+    pub starts: Row<u32>,
+    pub goals: Row<u32>,
 }
 
 /// The word at this place of a line, counted from 0; empty if there is none.
@@ -134,4 +136,13 @@ pub(crate) fn read_scenario(
         Some((line, after)) if is_version(line) => read_trips(alloc, sides, after),
         _ => Err(PlanTextFault::Line(1)),
     }
+}
+
+/// The robots' starts and goals in a scenario on a map. The fault is the first line that is not allowed where it is, or
+/// `NoMemory`.
+pub fn scenario_on(alloc: Global, grid: &Grid, text: &[u8]) -> Result<Scenario, PlanTextFault>
+    requires { length text.now ≤ MOST_PLAN_BYTES }
+    ensures { Gives trips result (scenario_of grid.now.width grid.now.height (lines_of text.now)) }
+{
+    read_scenario(alloc, sides_of(grid), text)
 }

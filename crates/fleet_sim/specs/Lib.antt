@@ -1,2 +1,3 @@
 pub mod Sim
 pub mod Table
+pub mod Ties

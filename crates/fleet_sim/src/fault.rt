@@ -9,6 +9,8 @@ pub enum SimFault {
     Robots,
     /// The map has fewer floor cells than robots.
     Floor,
+    /// The starts that are given are not distinct floor cells, one for each robot.
+    Starts,
     /// The robots cannot take turns: the rooms of the map do not pass their checks.
     Turns,
     /// The run has all the ticks and orders that a history may have.

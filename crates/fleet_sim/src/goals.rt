@@ -2,6 +2,7 @@
 
 use crate::draw::below;
 use crate::setting::Setting;
+use crate::tasks::Tasks;
 use fleet_grid::Grid;
 use fleet_roomy::{UnroomyCells, unroomy_cells};
 use rand_xoshiro::Xoshiro256PlusPlus;
@@ -16,6 +17,8 @@ pub(crate) struct Goals {
     leaders: Vec<usize>,
     /// The goals in the part of a robot that is the first in its part, by number; of other robots none.
     groups: Vec<Vec<u32>>,
+    /// The goals that are handed out in turn, if they are not random.
+    tasks: Option<Tasks>,
 }
 
 /// Marks the cells of a list.
@@ -131,10 +134,15 @@ impl Goals {
             .map(|robot| leader_of(grid, starts, robot))
             .collect(alloc)?;
         let groups = groups_of(alloc, grid, &marks, starts, &leaders)?;
+        let tasks = match setting.tasks {
+            Some(cells) => Some(Tasks::of(alloc, cells)?),
+            None => None,
+        };
         Ok(Goals {
             marks,
             leaders,
             groups,
+            tasks,
         })
     }
 
@@ -149,13 +157,23 @@ impl Goals {
         }
     }
 
-    /// A random goal of a robot that is not the cell on which it stands; `None` if there is none.
-    pub(crate) fn draw(
-        &self,
+    /// The next goal of a robot that is not the cell on which it stands: of the tasks, or a random one. `None` if there is
+    /// none.
+    pub(crate) fn next(
+        &mut self,
+        grid: &Grid,
         robot: u32,
         own: u32,
         random: &mut Xoshiro256PlusPlus,
     ) -> Option<u32> {
+        if let Some(tasks) = &mut self.tasks {
+            return tasks.next(grid, &self.marks, own);
+        }
+        self.draw(robot, own, random)
+    }
+
+    /// A random goal of a robot that is not the cell on which it stands; `None` if there is none.
+    fn draw(&self, robot: u32, own: u32, random: &mut Xoshiro256PlusPlus) -> Option<u32> {
         let group = self.group(robot);
         if is_marked(&self.marks, own) {
             beside(group, own, random)

@@ -14,6 +14,8 @@ mod setting;
 mod sim;
 mod starts;
 mod table;
+mod tasks;
+mod ties;
 
 pub use cell::Cell;
 pub use fault::SimFault;
@@ -22,3 +24,5 @@ pub use run::{Run, Times};
 pub use setting::Setting;
 pub use sim::{Ended, Sim};
 pub use table::{TableForm, table_text};
+pub use tasks::{TasksFault, read_tasks};
+pub use ties::{Ties, random_rank};

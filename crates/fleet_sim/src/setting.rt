@@ -15,4 +15,8 @@ pub struct Setting<'a> {
     pub roomy: bool,
     /// The cells to which errands go; all floor cells if there is no list.
     pub stations: Option<&'a [u32]>,
+    /// The cells on which the robots start, by robot; random ones if there is no list.
+    pub starts: Option<&'a [u32]>,
+    /// The errands, which are handed out in turn; random ones if there is no list.
+    pub tasks: Option<&'a [u32]>,
 }

@@ -1,6 +1,6 @@
 //! A run whose robots always have one errand.
 
-ghost use Rattle.std.specs.Prelude.{◌≡◌, ◌≤◌, ◌⊎◌, [], vec_len, IfOk, IfErr, IfSome, OnOk, OnErr, None, Some};
+ghost use Rattle.std.specs.Prelude.{◌≡◌, ◌≢◌, ◌≤◌, ◌⊎◌, [], IsTrue, vec_len, IfOk, IfErr, IfSome, OnOk, OnErr, None, Some};
 ghost use Rattle.fleet_core.specs.Core.{Ticks};
 ghost use Rattle.fleet_core.specs.declared.faults.TickReport.{TickReport};
 ghost use Rattle.fleet_sim.specs.Sim.{IsEnd, IsSet, IsUnset};
@@ -9,7 +9,7 @@ ghost use Rattle.mover.specs.declared.manner.Manner.TheVariants as manner;
 use crate::fault::SimFault;
 use crate::goals::Goals;
 use crate::setting::Setting;
-use crate::starts::starts_of;
+use crate::starts::{are_starts, starts_of};
 use fleet_book::{Limits, Notice, Order};
 use fleet_core::{Chapter, Hooks, TakeFault, TickFault, World};
 use fleet_grid::Grid;
@@ -56,15 +56,27 @@ struct Begin {
     random: Xoshiro256PlusPlus,
 }
 
+/// Whether a setting gives starts for which there is no run.
+fn has_bad_starts(grid: &Grid, setting: Setting<'_>) -> bool
+    ensures { IsTrue result → setting.entry.starts ≢ None }
+{
+    match setting.starts {
+        Some(cells) => !are_starts(grid, cells, setting.robots as usize),
+        None => false,
+    }
+}
+
 /// Why a setting has no run.
 fn setting_fault(grid: &Grid, setting: Setting<'_>) -> Option<SimFault>
-    ensures fault { IfSome result (IsUnset grid.now setting.entry.robots setting.entry.manner) }
+    ensures fault { IfSome result (IsUnset grid.now setting.entry) }
     ensures none { result ≡ None → IsSet grid.now setting.entry.robots }
 {
     if setting.robots == 0 || setting.robots > MOST_ROBOTS {
         Some(SimFault::Robots)
     } else if grid.floor_count() < setting.robots {
         Some(SimFault::Floor)
+    } else if has_bad_starts(grid, setting) {
+        Some(SimFault::Starts)
     } else {
         None
     }
@@ -73,7 +85,7 @@ fn setting_fault(grid: &Grid, setting: Setting<'_>) -> Option<SimFault>
 /// The begin of a run.
 fn begin_of(alloc: Global, grid: &Grid, setting: Setting<'_>) -> Result<Begin, AllocError> {
     let mut random = Xoshiro256PlusPlus::seed_from_u64(setting.seed);
-    let starts = starts_of(alloc, grid, setting.robots as usize, &mut random)?;
+    let starts = starts_of(alloc, grid, setting, &mut random)?;
     let goals = Goals::of(alloc, grid, &starts, setting)?;
     Ok(Begin {
         starts,
@@ -160,10 +172,11 @@ fn send(world: &mut World, robot: u32, cell: u32) -> Result<(), SimFault>
 }
 
 impl Sim {
-    /// Opens a run on a map: the robots stand on distinct random floor cells, and have no errands yet. There are hooks for
-    /// as many robots.
+    /// Opens a run on a map: the robots stand on the starts that are given, or on distinct random floor cells, and have no
+    /// errands yet. There are hooks for as many robots.
     ///
-    /// Refused in this order: not 1 to 512 robots, fewer floor cells than robots, out of memory, no turns on this map.
+    /// Refused in this order: not 1 to 512 robots, fewer floor cells than robots, starts that are not distinct floor
+    /// cells, out of memory, no turns on this map.
     pub fn open(
         alloc: Global,
         grid: Grid,
@@ -173,7 +186,7 @@ impl Sim {
         requires { 0 ≤ vec_len hooks.ties }
         ensures set { OnOk result (IsSet grid setting.entry.robots) }
         ensures floor { IfOk result (λ s. s.world.core.floor ≡ grid) }
-        ensures fault { IfErr result (IsUnset grid setting.entry.robots setting.entry.manner) }
+        ensures fault { IfErr result (IsUnset grid setting.entry) }
     {
         if let Some(fault) = setting_fault(&grid, setting) {
             mem::drop(hooks);
@@ -203,7 +216,7 @@ impl Sim {
         }
     }
 
-    /// Sends a robot to a random goal in its part on which it does not stand, if there is one.
+    /// Sends a robot to its next goal, in its part and not its cell, if there is one.
     fn send_on(&mut self, robot: u32) -> Result<(), SimFault>
         ensures { self.new.world.core.floor ≡ self.old.world.core.floor }
     {
@@ -211,7 +224,10 @@ impl Sim {
             Some(cell) => *cell,
             None => return Ok(()),
         };
-        match self.goals.draw(robot, own, &mut self.random) {
+        let goal = self
+            .goals
+            .next(self.world.grid(), robot, own, &mut self.random);
+        match goal {
             Some(cell) => send(&mut self.world, robot, cell),
             None => Ok(()),
         }

@@ -4,6 +4,7 @@ ghost use Rattle.std.specs.Prelude.{◌≡◌, IfOk, length};
 ghost use Rattle.fleet_grid.specs.Floor.{IsFloor};
 
 use crate::draw::below;
+use crate::setting::Setting;
 use fleet_grid::Grid;
 use rand_xoshiro::Xoshiro256PlusPlus;
 use std::alloc::{AllocError, Global};
@@ -35,13 +36,31 @@ fn some_of(cells: Vec<u32>, count: usize, random: &mut Xoshiro256PlusPlus) -> Ve
     cells
 }
 
-/// The start cells of this many robots: distinct random floor cells.
+/// Whether the first cells of a list, this many, are distinct floor cells.
+pub(crate) fn are_starts(grid: &Grid, cells: &[u32], robots: usize) -> bool {
+    if cells.len() < robots {
+        return false;
+    }
+    (0..robots).all(|place| grid.is_floor(cells[place]) && !cells[..place].contains(&cells[place]))
+}
+
+/// The first cells of a list, at most this many.
+fn first_of(alloc: Global, cells: &[u32], robots: usize) -> Result<Vec<u32>, AllocError> {
+    let mut starts = Vec::from_slice(alloc, cells)?;
+    starts.truncate(robots);
+    Ok(starts)
+}
+
+/// The start cells of the robots: those that are given, or distinct random floor cells.
 pub(crate) fn starts_of(
     alloc: Global,
     grid: &Grid,
-    robots: usize,
+    setting: Setting<'_>,
     random: &mut Xoshiro256PlusPlus,
 ) -> Result<Vec<u32>, AllocError> {
-    let floor = floor_cells(alloc, grid)?;
-    Ok(some_of(floor, robots, random))
+    let robots = setting.robots as usize;
+    match setting.starts {
+        Some(cells) => first_of(alloc, cells, robots),
+        None => Ok(some_of(floor_cells(alloc, grid)?, robots, random)),
+    }
 }

@@ -2,6 +2,6 @@ pub mod Followed
 pub mod Sound
 pub mod Lists
 pub mod Ways
-pub mod Blank
+pub mod Steps
 pub mod Balance
 pub mod Counted

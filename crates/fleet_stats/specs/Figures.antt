@@ -9,7 +9,7 @@ use Rattle.fleet_trace.specs.Trace.{Trace}
 use Rattle.fleet_stats.specs.declared.rows.TickRow.{TickRow}
 use Rattle.fleet_stats.specs.declared.rows.ErrandRow.{ErrandRow}
 use Rattle.fleet_stats.specs.declared.rows.LeftRow.{LeftRow}
-use Rattle.fleet_stats.specs.declared.spread.Spread.{Spread}
+use Rattle.fleet_stats.specs.declared.ranks.Ranks.{Ranks}
 use Rattle.fleet_stats.specs.declared.figures.Summary.{Summary}
 use Rattle.fleet_stats.specs.Noted.{Notes, robots_in}
 use Rattle.fleet_stats.specs.Rows.{clients_in, errand_rows, left_rows}
@@ -33,22 +33,23 @@ pub record IsOrdered (xs ys : List ℕ) : Type 0 where
   pub same : IsPermutation xs ys
   pub rising : IsNonDecreasing ys
 
--- figures of ordered numbers: how many, their sum; and of n of them the least that (n + 1) / 2 do not exceed, the least that 19 of 20
--- do not exceed, and the greatest
-abbrev pub spread_of : List ℕ → Spread
-spread_of ys = record {
+-- figures of ordered numbers: how many, their sum; and of n of them the least that (n + 1) / 2 do not exceed, the least that 9 of 10 do not
+-- exceed, the least that 99 of 100 do not exceed, and the greatest
+abbrev pub ranks_of : List ℕ → Ranks
+ranks_of ys = record {
   count = length ys;
   total = total ys;
   median = slice_index ys ((length ys - 1) / 2);
-  high = slice_index ys (length ys - length ys / 20 - 1);
+  ninetieth = slice_index ys (length ys - length ys / 10 - 1);
+  ninety_ninth = slice_index ys (length ys - length ys / 100 - 1);
   greatest = slice_index ys (length ys - 1);
 }
 
 -- figures of numbers in any order
-pub record IsSpread (xs : List ℕ) (spread : Spread) : Type 0 where
+pub record AreRanks (xs : List ℕ) (ranks : Ranks) : Type 0 where
   pub ys : List ℕ
   pub ordered : IsOrdered xs ys
-  pub is : spread ≡ spread_of ys
+  pub is : ranks ≡ ranks_of ys
 
 -- ---- of errands
 
@@ -57,8 +58,8 @@ abbrev pub service_times : List ErrandRow → List ℕ
 service_times rows = map (λ x. x.done.arrived - x.accepted) rows
 
 -- from when the robot began it to the arrival
-abbrev pub wait_times : List ErrandRow → List ℕ
-wait_times rows = map (λ x. x.done.arrived - x.done.begun) rows
+abbrev pub travel_times : List ErrandRow → List ℕ
+travel_times rows = map (λ x. x.done.arrived - x.done.begun) rows
 
 -- ---- of ticks
 
@@ -110,8 +111,8 @@ abbrev pub left_in : {A : Type 0} → List (Trace A) → Notes → List LeftRow
 left_in ts n = left_rows (clients_in ts) n.taken n.left
 
 -- the figures of a run, with these figures of times and this limit
-abbrev pub summary_of : {A : Type 0} → Floor → List (Trace A) → Notes → List ErrandRow → Spread → Spread → Option ℕ → Summary
-summary_of m ts n rows service waited limit = record {
+abbrev pub summary_of : {A : Type 0} → Floor → List (Trace A) → Notes → List ErrandRow → Ranks → Ranks → Option ℕ → Summary
+summary_of m ts n rows service travel limit = record {
   robots = length (robots_in ts);
   clients = length (clients_in ts);
   floor_cells = floor_count m;
@@ -125,7 +126,7 @@ summary_of m ts n rows service waited limit = record {
   waited = greatest_by (λ x. x.waited) n.ticks;
   limit = limit;
   service = service;
-  wait = waited;
+  travel = travel;
   -- the steps of the robots from when they began their errands, and the distances from there
   steps = total_by (λ x. x.done.leg.steps) rows;
   distance = total_by (λ x. unwrap_or x.distance 0) rows;
@@ -133,7 +134,7 @@ summary_of m ts n rows service waited limit = record {
 
 -- the figures of a run, with its notes and its rows of errands
 pub record IsSummary {A : Type 0} (m : Floor) (ts : List (Trace A)) (n : Notes) (rows : List ErrandRow) (s : Summary) : Type 0 where
-  pub service : IsSpread (service_times rows) s.service
-  pub wait : IsSpread (wait_times rows) s.wait
+  pub service : AreRanks (service_times rows) s.service
+  pub travel : AreRanks (travel_times rows) s.travel
   pub limit : IsLimit m (length (robots_in ts)) s.limit
-  pub is : s ≡ summary_of m ts n rows s.service s.wait s.limit
+  pub is : s ≡ summary_of m ts n rows s.service s.travel s.limit

@@ -9,8 +9,7 @@ use Rattle.fleet_stats.specs.declared.ranks.Ranks.{Ranks}
 use Rattle.fleet_stats.specs.declared.later.LaterFigures.{LaterFigures}
 use Rattle.fleet_stats.specs.Noted.{Notes, run_noted}
 use Rattle.fleet_stats.specs.Rows.{clients_in, served_rows, measured}
-use Rattle.fleet_stats.specs.Figures.{total, total_by, greatest_by, service_times, wait_times}
-use Rattle.fleet_stats.specs.Ranks.{AreRanks}
+use Rattle.fleet_stats.specs.Figures.{total, total_by, greatest_by, service_times, travel_times, AreRanks}
 use Rattle.fleet_stats.specs.Chapters.{AreSound}
 
 -- the ticks with numbers above the clock
@@ -37,7 +36,7 @@ later_of ticks rows service = record {
   arrivals_at_end = total_by (λ x. x.arrivals) (last_quarter ticks);
   waited = greatest_by (λ x. x.waited) ticks;
   service = service;
-  travel = total (wait_times rows);
+  travel = total (travel_times rows);
   distance = total_by (λ x. unwrap_or x.distance 0) rows;
 }
 

@@ -1,10 +1,10 @@
 pub mod Noted
 pub mod Chapters
 pub mod Rows
+pub mod Tallies
 pub mod Figures
 pub mod Text
 pub mod Report
 pub mod Counts
-pub mod Ranks
 pub mod Later
 pub mod inside

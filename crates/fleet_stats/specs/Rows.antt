@@ -79,13 +79,9 @@ goal_key goals place = min (slice_index goals place * 4294967296 + place) (2 ^ 6
 
 -- ---- rows of errands that are left
 
-abbrev pub left_if : Option ℕ → Left → List LeftRow
-left_if None x = []
-left_if (Some t) x = record { accepted = t; left = x } ∷ []
+abbrev pub left_row_of : List ClientState → List (List ℕ) → Left → LeftRow
+left_row_of clients times x = record { accepted = accepted_at clients times x.client x.number; left = x }
 
-abbrev pub left_row_of : List ClientState → List (List ℕ) → Left → List LeftRow
-left_row_of clients times x = left_if (accepted_at clients times x.client x.number) x
-
--- a row for each errand that the run accepted and that is left, in their order
+-- a row for each errand that is left, in their order
 abbrev pub left_rows : List ClientState → List Taken → List Left → List LeftRow
-left_rows clients taken left = flat_map (left_row_of clients (all_times taken (length clients))) left
+left_rows clients taken left = map (left_row_of clients (all_times taken (length clients))) left

@@ -1,5 +1,5 @@
 -- Figures as text: lines `NAME VALUE`, or the members of one JSON object.
-use Rattle.std.specs.Prelude.{ℕ, zero, suc, ◌+◌, ◌*◌, ◌/◌, ◌%◌, ◌==◌, if◌then◌else◌, List, [], ◌∷◌, ◌++◌, Option, Some, None, codes, decimal, length, count_by}
+use Rattle.std.specs.Prelude.{ℕ, zero, suc, ◌+◌, ◌-◌, ◌*◌, ◌^◌, ◌/◌, ◌%◌, ◌==◌, if◌then◌else◌, List, [], ◌∷◌, ◌++◌, Option, Some, None, codes, decimal, length, count_by, min}
 use Rattle.std.specs.List.{flat_map}
 use Rattle.fleet_book.specs.declared.verdict.Verdict.{Verdict}
 use Rattle.fleet_book.specs.Refusals.{refusal_of, verdict_name}
@@ -9,7 +9,9 @@ use Rattle.fleet_stats.specs.declared.rows.TickRow.{TickRow}
 use Rattle.fleet_stats.specs.declared.rows.ErrandRow.{ErrandRow}
 use Rattle.fleet_stats.specs.declared.rows.LeftRow.{LeftRow}
 use Rattle.fleet_stats.specs.declared.rows.Landed.{Landed}
-use Rattle.fleet_stats.specs.declared.spread.Spread.{Spread}
+use Rattle.fleet_stats.specs.declared.ranks.Ranks.{Ranks}
+use Rattle.fleet_stats.specs.declared.later.LaterFigures.{LaterFigures}
+use Rattle.fleet_stats.specs.declared.tallies.Tally.{Tally}
 use Rattle.fleet_stats.specs.declared.figures.Summary.{Summary}
 use Rattle.fleet_stats.specs.Figures.{count_of, is_refusal}
 
@@ -83,12 +85,19 @@ done_text style s =
     ++ (whole_line style (codes "") (codes "unfinished") s.unfinished
     ++ whole_line style (codes "") (codes "errands") s.service.count))
 
-abbrev pub spread_text : Style → List ℕ → Spread → List ℕ
-spread_text style group x =
+abbrev pub ranks_text : Style → List ℕ → Ranks → List ℕ
+ranks_text style group x =
     ratio_line style group (codes "_mean") x.total x.count
     ++ (counted_line style group (codes "_median") x.count x.median
-    ++ (counted_line style group (codes "_p95") x.count x.high
-    ++ counted_line style group (codes "_greatest") x.count x.greatest))
+    ++ (counted_line style group (codes "_p90") x.count x.ninetieth
+    ++ (counted_line style group (codes "_p99") x.count x.ninety_ninth
+    ++ counted_line style group (codes "_greatest") x.count x.greatest)))
+
+-- the time beyond the distances, over the errands; and the time over the distances
+abbrev pub delay_text : Style → ℕ → ℕ → ℕ → List ℕ
+delay_text style travel distance errands =
+    ratio_line style (codes "") (codes "delay") (travel - distance) errands
+    ++ ratio_line style (codes "") (codes "delay_ratio") travel distance
 
 -- the steps of the robots, the distances, and the one by the other
 abbrev pub ways_text : Style → Summary → List ℕ
@@ -97,17 +106,27 @@ ways_text style s =
     ++ (whole_line style (codes "") (codes "distance") s.distance
     ++ ratio_line style (codes "") (codes "detour") s.steps s.distance)
 
+-- how many robots there were in all ticks together
+abbrev pub robot_ticks : Summary → ℕ
+robot_ticks s = min (s.robots * s.ticks) (2 ^ 64 - 1)
+
 abbrev pub robots_text : Style → Summary → List ℕ
 robots_text style s =
     whole_line style (codes "") (codes "longest_wait") s.waited
     ++ (option_line style (codes "") (codes "wait_limit") s.limit
     ++ (ratio_line style (codes "") (codes "idle_mean") s.idle s.ticks
+    ++ (ratio_line style (codes "") (codes "under_way") (robot_ticks s - s.idle) (robot_ticks s)
     ++ (whole_line style (codes "") (codes "moves") s.moves
-    ++ whole_line style (codes "") (codes "stands") s.stands)))
+    ++ whole_line style (codes "") (codes "stands") s.stands))))
 
 -- what was done, the times of service, the waits, and the ways
 abbrev pub fleet_text : Style → Summary → List ℕ
-fleet_text style s = done_text style s ++ (spread_text style (codes "service") s.service ++ (spread_text style (codes "wait") s.wait ++ ways_text style s))
+fleet_text style s =
+    done_text style s
+    ++ (ranks_text style (codes "service") s.service
+    ++ (ranks_text style (codes "travel") s.travel
+    ++ (ways_text style s
+    ++ delay_text style s.travel.total s.distance s.service.count)))
 
 -- all figures but for the windows
 abbrev pub figures_text : Style → Summary → List ℕ → List ℕ
@@ -135,6 +154,22 @@ abbrev pub summary_text : Style → Summary → List ℕ → List ℕ → List �
 summary_text Text s kinds windows = figures_text Text s kinds ++ (codes "window_arrivals" ++ (blank_before windows ++ codes "\n"))
 summary_text Json s kinds windows = codes "{" ++ (figures_text Json s kinds ++ (codes "\"window_arrivals\":[" ++ (commas_from 0 windows ++ codes "]}\n")))
 
+-- ---- the figures after a clock
+
+abbrev pub later_figures : Style → LaterFigures → List ℕ
+later_figures style f =
+    whole_line style (codes "") (codes "ticks") f.ticks
+    ++ (whole_line style (codes "") (codes "arrivals") f.arrivals
+    ++ (ratio_line style (codes "") (codes "throughput") f.arrivals f.ticks
+    ++ (whole_line style (codes "") (codes "errands") f.service.count
+    ++ (ranks_text style (codes "service") f.service
+    ++ (whole_line style (codes "") (codes "distance") f.distance
+    ++ delay_text style f.travel f.distance f.service.count)))))
+
+abbrev pub later_text : Style → LaterFigures → List ℕ
+later_text Text f = later_figures Text f ++ (codes "longest_wait " ++ (decimal f.waited ++ codes "\n"))
+later_text Json f = codes "{" ++ (later_figures Json f ++ (codes "\"longest_wait\":" ++ (decimal f.waited ++ codes "}\n")))
+
 -- ---- tables, with commas between the columns
 
 -- a number, or nothing in its column
@@ -159,12 +194,35 @@ errand_line x = names_text x.done ++ (times_text x.accepted x.done ++ (option_te
 abbrev pub errands_head : List ℕ
 errands_head = codes "client,number,robot,cell,accepted,begun,arrived,from,steps,distance\n"
 
--- an errand that is left: nothing is told of its robot's way
-abbrev pub left_line : LeftRow → List ℕ
-left_line x = decimal x.left.client ++ (codes "," ++ (decimal x.left.number ++ (codes "," ++ (decimal x.left.robot ++ (codes "," ++ (decimal x.left.cell ++ (codes "," ++ (decimal x.accepted ++ codes ",,,,,\n"))))))))
+abbrev pub errands_table : List ErrandRow → List ℕ
+errands_table rows = errands_head ++ flat_map errand_line rows
 
-abbrev pub errands_table : List ErrandRow → List LeftRow → List ℕ
-errands_table rows left = errands_head ++ (flat_map errand_line rows ++ flat_map left_line left)
+-- an errand that is left
+abbrev pub left_line : LeftRow → List ℕ
+left_line x =
+    decimal x.left.client ++ (codes "," ++ (decimal x.left.number ++ (codes "," ++ (decimal x.left.robot ++ (codes "," ++ (decimal x.left.cell ++ (codes "," ++ (option_text x.accepted ++ codes "\n"))))))))
+
+abbrev pub unfinished_head : List ℕ
+unfinished_head = codes "client,number,robot,cell,accepted\n"
+
+abbrev pub unfinished_table : List LeftRow → List ℕ
+unfinished_table left = unfinished_head ++ flat_map left_line left
+
+-- what the errands of one robot or client add up to
+abbrev pub tally_line : ℕ → Tally → List ℕ
+tally_line key x =
+    decimal key ++ (codes "," ++ (decimal x.errands ++ (codes "," ++ (decimal x.unfinished ++ (codes "," ++ (decimal x.service ++ (codes "," ++ (decimal x.travel ++ (codes "," ++ (decimal x.steps ++ (codes "," ++ (decimal x.distance ++ codes "\n"))))))))))))
+
+-- those of the robots or clients below this number
+abbrev pub tallies_below : (ℕ → Tally) → ℕ → List ℕ
+tallies_below tally zero = []
+tallies_below tally (suc key) = tallies_below tally key ++ tally_line key (tally key)
+
+abbrev pub tallies_head : List ℕ → List ℕ
+tallies_head name = name ++ codes ",errands,unfinished,service,travel,steps,distance\n"
+
+abbrev pub tallies_table : List ℕ → (ℕ → Tally) → ℕ → List ℕ
+tallies_table name tally count = tallies_head name ++ tallies_below tally count
 
 -- the row of a tick
 abbrev pub tick_line : TickRow → List ℕ

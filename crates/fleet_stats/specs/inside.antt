@@ -1,3 +1,4 @@
 -- What only proofs and private functions use.
 pub mod Following
-pub mod Fields
+pub mod Found
+pub mod Steps

@@ -1,8 +1,8 @@
-//! The errands that a run accepted: those that it did, and those that are left.
+//! The errands of a run: those that it accepted and did, and those that are left.
 
 ghost use Rattle.std.specs.Prelude.{◌≡◌, ◌++◌, [], length, map, slice_index_or, IfOk, OnOk};
 ghost use Rattle.std.specs.List.{flat_map};
-ghost use Rattle.fleet_stats.specs.Rows.{times_of, all_times, accepted_before, time_in, accepted_at, served_if, served_of, served_rows, left_if, left_row_of, left_rows};
+ghost use Rattle.fleet_stats.specs.Rows.{times_of, all_times, accepted_before, time_in, accepted_at, served_if, served_of, served_rows, left_row_of, left_rows};
 
 use crate::rows::{Landed, Left, LeftRow, Served, Taken};
 use fleet_history::ClientState;
@@ -110,16 +110,6 @@ pub(crate) fn served_rows(
     Ok(served)
 }
 
-/// Adds an errand that is left, if the run accepted it.
-fn push_left(rows: &mut Vec<LeftRow>, accepted: Option<u64>, left: Left) -> Result<(), AllocError>
-    ensures { OnOk result (rows.new.items ≡ rows.old.items ++ left_if accepted left) }
-{
-    if let Some(accepted) = accepted {
-        rows.push(LeftRow { accepted, left })?;
-    }
-    Ok(())
-}
-
 /// Adds the errands that are left.
 fn push_all_left(
     rows: &mut Vec<LeftRow>,
@@ -127,16 +117,18 @@ fn push_all_left(
     times: &[Vec<u64>],
     lefts: &[Left],
 ) -> Result<(), AllocError>
-    ensures { OnOk result (rows.new.items ≡ rows.old.items ++ flat_map (left_row_of clients.now (map (λ one. one.items) times.now)) lefts.now) }
+    ensures { OnOk result (rows.new.items ≡ rows.old.items ++ map (left_row_of clients.now (map (λ one. one.items) times.now)) lefts.now) }
 {
     for left in lefts {
-        let accepted = accepted_at(clients, times, left.client, left.number);
-        push_left(rows, accepted, *left)?;
+        rows.push(LeftRow {
+            accepted: accepted_at(clients, times, left.client, left.number),
+            left: *left,
+        })?;
     }
     Ok(())
 }
 
-/// The errands that a run accepted and that are left at its end, by robot and place in its queue.
+/// The errands that are left at the end of a run, by robot and place in its queue.
 pub(crate) fn left_rows(
     alloc: Global,
     clients: &[ClientState],

@@ -3,12 +3,12 @@
 ghost use Rattle.std.specs.Prelude.{◌≡◌, map, count_by, unwrap_or, IfOk};
 ghost use Rattle.fleet_trace.specs.Trace.{trace_of};
 ghost use Rattle.fleet_stats.specs.Rows.{shown, clients_in};
-ghost use Rattle.fleet_stats.specs.Figures.{total_by, greatest_by, service_times, wait_times, arrivals_of, count_of, is_refusal, IsSpread, IsLimit, IsSummary, first_tick};
+ghost use Rattle.fleet_stats.specs.Figures.{total_by, greatest_by, service_times, travel_times, arrivals_of, count_of, is_refusal, AreRanks, IsLimit, IsSummary, first_tick};
 
 use crate::follow::robots_in;
 use crate::notes::Notes;
+use crate::ranks::{Ranks, ranked};
 use crate::rows::{ErrandRow, TickRow};
-use crate::spread::{Spread, ordered, spread_of};
 use fleet_bridge::first_bridge;
 use fleet_grid::Grid;
 use fleet_history::{Chapter, ClientState};
@@ -36,9 +36,9 @@ pub(crate) struct Summary {
     /// What no wait reaches, on a map without bridges.
     pub(crate) limit: Option<u64>,
     /// From the acceptance of an errand to the arrival.
-    pub(crate) service: Spread,
+    pub(crate) service: Ranks,
     /// From when a robot began an errand to the arrival.
-    pub(crate) wait: Spread,
+    pub(crate) travel: Ranks,
     /// The steps of robots on their ways to errands that they did.
     pub(crate) steps: u64,
     /// The distances of these errands.
@@ -55,8 +55,8 @@ pub(crate) fn service_times(alloc: Global, rows: &[ErrandRow]) -> Result<Vec<u64
 }
 
 /// The times from when robots began errands to the arrivals.
-pub(crate) fn wait_times(alloc: Global, rows: &[ErrandRow]) -> Result<Vec<u64>, AllocError>
-    ensures { IfOk result (λ times. times.items ≡ wait_times rows.now) }
+pub(crate) fn travel_times(alloc: Global, rows: &[ErrandRow]) -> Result<Vec<u64>, AllocError>
+    ensures { IfOk result (λ times. times.items ≡ travel_times rows.now) }
 {
     rows.iter()
         .map(|row| row.done.arrived.saturating_sub(row.done.begun))
@@ -167,7 +167,7 @@ pub(crate) fn clients_in(chapters: &[Chapter]) -> &[ClientState]
 }
 
 /// The clock at the first opening.
-fn first_tick(chapters: &[Chapter]) -> u64
+pub(crate) fn first_tick(chapters: &[Chapter]) -> u64
     ensures { result ≡ first_tick (map trace_of chapters.now) }
 {
     match chapters.first() {
@@ -177,19 +177,17 @@ fn first_tick(chapters: &[Chapter]) -> u64
 }
 
 /// The figures of service times.
-fn service_of(alloc: Global, rows: &[ErrandRow]) -> Result<Spread, AllocError>
-    ensures { IfOk result (λ spread. IsSpread (service_times rows.now) spread) }
+pub(crate) fn service_of(alloc: Global, rows: &[ErrandRow]) -> Result<Ranks, AllocError>
+    ensures { IfOk result (λ service. AreRanks (service_times rows.now) service) }
 {
-    let times = ordered(service_times(alloc, rows)?);
-    Ok(spread_of(&times))
+    Ok(ranked(service_times(alloc, rows)?))
 }
 
-/// The figures of waits.
-fn waits_of(alloc: Global, rows: &[ErrandRow]) -> Result<Spread, AllocError>
-    ensures { IfOk result (λ spread. IsSpread (wait_times rows.now) spread) }
+/// The figures of travel times.
+fn travel_of(alloc: Global, rows: &[ErrandRow]) -> Result<Ranks, AllocError>
+    ensures { IfOk result (λ travel. AreRanks (travel_times rows.now) travel) }
 {
-    let times = ordered(wait_times(alloc, rows)?);
-    Ok(spread_of(&times))
+    Ok(ranked(travel_times(alloc, rows)?))
 }
 
 /// The figures of a run, from what was recorded of it and from its errands.
@@ -205,7 +203,7 @@ pub(crate) fn summarize(
     let robots = robots_in(chapters).len() as u64;
     let limit = limit_of(alloc, grid, robots)?;
     let service = service_of(alloc, rows)?;
-    let wait = waits_of(alloc, rows)?;
+    let travel = travel_of(alloc, rows)?;
     let totals = totals_of(&notes.ticks);
     let (steps, distance) = ways_of(rows);
     Ok(Summary {
@@ -222,7 +220,7 @@ pub(crate) fn summarize(
         waited: totals.waited,
         limit,
         service,
-        wait,
+        travel,
         steps,
         distance,
     })

@@ -4,17 +4,15 @@ ghost use Rattle.std.specs.Prelude.{◌≡◌, map, IfOk, IfErr};
 ghost use Rattle.fleet_trace.specs.Trace.{trace_of};
 ghost use Rattle.fleet_stats.specs.Rows.{shown};
 ghost use Rattle.fleet_stats.specs.Chapters.{IsUnfollowed};
-ghost use Rattle.fleet_stats.specs.Figures.{service_times};
-ghost use Rattle.fleet_stats.specs.Ranks.{AreRanks};
 ghost use Rattle.fleet_stats.specs.Later.{AreLater, IsLater, last_quarter, later_of, rows_after, served_after, ticks_after};
 
 use crate::errands::served_rows;
 use crate::fault::StatsFault;
-use crate::figures::{clients_in, service_times, totals_of, wait_times, ways_of};
+use crate::figures::{clients_in, service_of, totals_of, travel_times, ways_of};
 use crate::follow::follow;
 use crate::measure::errand_rows;
 use crate::notes::Notes;
-use crate::ranks::{Ranks, ranked};
+use crate::ranks::Ranks;
 use crate::rows::{ErrandRow, Served, TickRow};
 use crate::spread::total;
 use fleet_grid::Grid;
@@ -84,13 +82,6 @@ fn rows_after(
     errand_rows(alloc, grid, &later)
 }
 
-/// The figures of service times.
-fn service_of(alloc: Global, rows: &[ErrandRow]) -> Result<Ranks, AllocError>
-    ensures { IfOk result (λ service. AreRanks (service_times rows.now) service) }
-{
-    Ok(ranked(service_times(alloc, rows)?))
-}
-
 /// The figures of ticks and of the errands that were done in them, with those of service times.
 fn later_of(
     alloc: Global,
@@ -100,7 +91,7 @@ fn later_of(
 ) -> Result<LaterFigures, AllocError>
     ensures { IfOk result (λ f. f ≡ later_of ticks.now rows.now service) }
 {
-    let waits = wait_times(alloc, rows)?;
+    let times = travel_times(alloc, rows)?;
     let totals = totals_of(ticks);
     let (_steps, distance) = ways_of(rows);
     Ok(LaterFigures {
@@ -109,13 +100,13 @@ fn later_of(
         arrivals_at_end: totals_of(last_quarter(ticks)).arrivals,
         waited: totals.waited,
         service,
-        travel: total(&waits),
+        travel: total(&times),
         distance,
     })
 }
 
 /// The figures after a clock of what was recorded.
-fn later_in(
+pub(crate) fn later_in(
     alloc: Global,
     grid: &Grid,
     chapters: &[Chapter],

@@ -20,6 +20,7 @@ mod ranks;
 mod rows;
 mod spread;
 mod tables;
+mod tallies;
 mod tick;
 
 pub use answer::{StatsForm, stats};

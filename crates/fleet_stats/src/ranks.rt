@@ -1,7 +1,7 @@
 //! Percentiles of numbers.
 
 ghost use Rattle.std.specs.Prelude.{◌≡◌};
-ghost use Rattle.fleet_stats.specs.Ranks.{ranks_of, AreRanks};
+ghost use Rattle.fleet_stats.specs.Figures.{ranks_of, AreRanks};
 
 use crate::spread::{ordered, total};
 use crate::tick::number_at;

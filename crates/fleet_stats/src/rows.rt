@@ -75,10 +75,10 @@ pub(crate) struct ErrandRow {
     pub(crate) distance: Option<u32>,
 }
 
-/// An errand that was accepted and is in a robot's queue at the end.
+/// An errand that is in a robot's queue at the end.
 #[derive(Clone, Copy)]
 pub(crate) struct LeftRow {
-    /// The clock when it was accepted.
-    pub(crate) accepted: u64,
+    /// The clock when the run accepted it; `None` if it was accepted before.
+    pub(crate) accepted: Option<u64>,
     pub(crate) left: Left,
 }

@@ -1,22 +1,9 @@
-//! Figures of numbers.
+//! Sums of numbers, and their order.
 
 ghost use Rattle.std.specs.Prelude.{◌≡◌, ◌*◌, ◌≤◌, take, drop, length, IfOk};
-ghost use Rattle.fleet_stats.specs.Figures.{total, IsOrdered, spread_of, window_count, windows_below, windows_of};
+ghost use Rattle.fleet_stats.specs.Figures.{total, IsOrdered, window_count, windows_below, windows_of};
 
-use crate::tick::number_at;
 use std::alloc::{AllocError, Global};
-
-/// Figures of some numbers. If there are none, all are 0.
-#[derive(Clone, Copy)]
-pub(crate) struct Spread {
-    pub(crate) count: u64,
-    pub(crate) total: u64,
-    /// The least number that is not exceeded by half of them, rounded up.
-    pub(crate) median: u64,
-    /// The least number that is not exceeded by 19 of 20, rounded up.
-    pub(crate) high: u64,
-    pub(crate) greatest: u64,
-}
 
 /// The sum of the numbers, at most 2^64 - 1.
 pub(crate) fn total(numbers: &[u64]) -> u64
@@ -34,20 +21,6 @@ pub(crate) fn ordered(numbers: Vec<u64>) -> Vec<u64>
     let mut numbers = numbers;
     numbers.sort_unstable();
     numbers
-}
-
-/// The figures of ordered numbers.
-pub(crate) fn spread_of(numbers: &[u64]) -> Spread
-    ensures { result ≡ spread_of numbers.now }
-{
-    let count = numbers.len();
-    Spread {
-        count: count as u64,
-        total: total(numbers),
-        median: number_at(numbers, count.saturating_sub(1) / 2),
-        high: number_at(numbers, (count - count / 20).saturating_sub(1)),
-        greatest: number_at(numbers, count.saturating_sub(1)),
-    }
 }
 
 /// At most 100 numbers, from a place on.

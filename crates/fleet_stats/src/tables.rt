@@ -3,7 +3,7 @@
 ghost use Rattle.std.specs.Prelude.{◌≡◌, ℕ, ◌+◌, ◌^◌, ◌++◌, ◌==◌, ◌<◌, ◌≤◌, if◌then◌else◌, length, OnOk, IfOk, string_bytes, slice_index};
 ghost use Rattle.std.specs.List.{flat_map};
 ghost use Rattle.fleet_stats.specs.Figures.{count_of};
-ghost use Rattle.fleet_stats.specs.Text.{option_text, names_text, times_text, errand_line, left_line, errands_table, tick_line, ticks_table, cell_line, cells_below, cells_table};
+ghost use Rattle.fleet_stats.specs.Text.{option_text, names_text, times_text, errand_line, errands_table, left_line, unfinished_table, tick_line, ticks_table, cell_line, cells_below, cells_table};
 
 use crate::rows::{ErrandRow, Landed, LeftRow, TickRow};
 use std::alloc::{AllocError, Global};
@@ -62,13 +62,35 @@ fn write_errands(out: &mut String, rows: &[ErrandRow]) -> Result<(), AllocError>
     Ok(())
 }
 
-/// The line of an errand that is left: nothing is told of its robot's way.
+/// The table of errands.
+pub(crate) fn errands_table(alloc: Global, rows: &[ErrandRow]) -> Result<String, AllocError>
+    ensures { IfOk result (λ text. string_bytes text ≡ errands_table rows.now) }
+{
+    let mut out = String::new(alloc);
+    out.push_str("client,number,robot,cell,accepted,begun,arrived,from,steps,distance\n")?;
+    write_errands(&mut out, rows)?;
+    Ok(out)
+}
+
+/// A clock, if there is one.
+fn write_clock(out: &mut String, clock: Option<u64>) -> Result<(), AllocError>
+    ensures { OnOk result (string_bytes out.new ≡ string_bytes out.old ++ option_text clock) }
+{
+    match clock {
+        Some(clock) => write!(out, "{clock}"),
+        None => Ok(()),
+    }
+}
+
+/// The line of an errand that is left.
 fn write_left(out: &mut String, row: &LeftRow) -> Result<(), AllocError>
     ensures { OnOk result (string_bytes out.new ≡ string_bytes out.old ++ left_line row.now) }
 {
     let LeftRow { accepted, left } = *row;
     let (client, number, robot, cell) = (left.client, left.number, left.robot, left.cell);
-    write!(out, "{client},{number},{robot},{cell},{accepted},,,,,\n")
+    write!(out, "{client},{number},{robot},{cell},")?;
+    write_clock(out, accepted)?;
+    out.push_str("\n")
 }
 
 /// A line for each errand that is left.
@@ -81,17 +103,12 @@ fn write_all_left(out: &mut String, rows: &[LeftRow]) -> Result<(), AllocError>
     Ok(())
 }
 
-/// The table of errands: those that were done, then those that are left.
-pub(crate) fn errands_table(
-    alloc: Global,
-    rows: &[ErrandRow],
-    left: &[LeftRow],
-) -> Result<String, AllocError>
-    ensures { IfOk result (λ text. string_bytes text ≡ errands_table rows.now left.now) }
+/// The table of errands that are left.
+pub(crate) fn unfinished_table(alloc: Global, left: &[LeftRow]) -> Result<String, AllocError>
+    ensures { IfOk result (λ text. string_bytes text ≡ unfinished_table left.now) }
 {
     let mut out = String::new(alloc);
-    out.push_str("client,number,robot,cell,accepted,begun,arrived,from,steps,distance\n")?;
-    write_errands(&mut out, rows)?;
+    out.push_str("client,number,robot,cell,accepted\n")?;
     write_all_left(&mut out, left)?;
     Ok(out)
 }

@@ -45,7 +45,7 @@ module _ {A : Type 0} where
   pub known-still : (before after : Option (List (ChapterView A))) (s t : Talk A) (most : List ℕ) → KeepsTurned before after s t → AreRoomyFor s.world.floor most → AreRoomyFor t.world.floor most
   known-still before after s t most (chapters, turned, adds) known = subst (λ (m : Floor). AreRoomyFor m most) (sym (turned-floor (beginning s.world) (beginning t.world) chapters turned)) known
 
-  turned-then : (b m e : Beginning A) (xs ys : List (ChapterView A)) → AreTurned b xs m → AreTurned m ys e → AreTurned b (xs ++ ys) e
+  pub turned-then : (b m e : Beginning A) (xs ys : List (ChapterView A)) → AreTurned b xs m → AreTurned m ys e → AreTurned b (xs ++ ys) e
   turned-then b m e [] ys same more = subst (λ (x : Beginning A). AreTurned x ys e) same more
   turned-then b m e (x ∷ xs) ys (is, rest) more = (is, turned-then (next_beginning b x.history) m e xs ys rest more)
 

@@ -11,6 +11,9 @@ pub mod Onces
 pub mod Onward
 mod Doors
 pub mod Finishing
+pub mod Backing
+pub mod Growing
+pub mod OnwardBacked
 pub mod Resumptions
 pub mod Manners
 pub mod Starting

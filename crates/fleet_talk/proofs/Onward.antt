@@ -24,10 +24,10 @@ module _ {A : Type 0} (settings : Settings) (cells : List Bool) (s : Fleet A) wh
   abbrev from_line : List Act → Line → List Act
   from_line rest l = cond (is_quit l.asked) [] (acts_on settings l ++ rest)
 
-  acts_more : (n : ℕ) (line : List ℕ) (lines : List (List ℕ)) (l : Line) → l ≡ line_let_in cells n line → is_quit l.asked ≡ false → acts_from settings cells n (line ∷ lines) ≡ acts_on settings l ++ acts_from settings cells (n + 1) lines
+  pub acts_more : (n : ℕ) (line : List ℕ) (lines : List (List ℕ)) (l : Line) → l ≡ line_let_in cells n line → is_quit l.asked ≡ false → acts_from settings cells n (line ∷ lines) ≡ acts_on settings l ++ acts_from settings cells (n + 1) lines
   acts_more n line lines l at goes = ap (from_line (acts_from settings cells (n + 1) lines)) (sym at) ∙ rw goes refl
 
-  acts_over : (n : ℕ) (line : List ℕ) (lines : List (List ℕ)) (l : Line) → l ≡ line_let_in cells n line → is_quit l.asked ≡ true → acts_from settings cells n (line ∷ lines) ≡ []
+  pub acts_over : (n : ℕ) (line : List ℕ) (lines : List (List ℕ)) (l : Line) → l ≡ line_let_in cells n line → is_quit l.asked ≡ true → acts_from settings cells n (line ∷ lines) ≡ []
   acts_over n line lines l at quit = ap (from_line (acts_from settings cells (n + 1) lines)) (sym at) ∙ rw quit refl
 
   -- no line was answered yet

@@ -20,6 +20,7 @@ pub mod Acts
 pub mod Chapters
 pub mod Journal
 pub mod Talked
+pub mod Backed
 pub mod Said
 pub mod Conversation
 pub mod Resumed

@@ -1,13 +1,15 @@
 //! The lines of a conversation after its head: each is answered, and what is said and handed out is written and kept.
 
 ghost use Rattle.std.specs.Prelude.{◌≡◌, ◌≤◌, ◌∷◌, ℕ, List, OnOk, OnErr, IfErr, IfSome};
+ghost use Rattle.std.specs.declared.alloc.Global.{Global};
 ghost use Rattle.std.specs.Io.Buffered.{reader_remaining};
 ghost use Rattle.fleet_bridge.specs.Roominess.{AreRoomyFor};
 ghost use Rattle.fleet_world.specs.Keeps.{talk};
 ghost use Rattle.fleet_talk.specs.Act.{act_asked, acts_from, acts_on};
 ghost use Rattle.fleet_talk.specs.Acts.{Does, Talks};
+ghost use Rattle.fleet_talk.specs.Backed.{AllBacked, GoesOnce, PartBacked, Stands};
 ghost use Rattle.fleet_talk.specs.Broken.{IsMidway};
-ghost use Rattle.fleet_talk.specs.Chapters.{KeepsTurned};
+ghost use Rattle.fleet_talk.specs.Chapters.{ChapterView, KeepsTurned, chapter_in};
 ghost use Rattle.fleet_talk.specs.Heard.{heard_lines};
 ghost use Rattle.fleet_talk.specs.Lines.{line_shown};
 ghost use Rattle.fleet_talk.specs.Open.{fleet_of};
@@ -41,6 +43,8 @@ fn do_once<R: Alloc<A = Global>, S: ChapterSink>(
     requires { AreRoomyFor fleet.old.session.world.core.floor roominess.now }
     ensures ok { OnOk result ((text : List ℕ) × Does pen.old.settings.roll (fleet_of fleet.old) (act_asked (line_shown line.entry) line.entry.asked) text (fleet_of fleet.new) × IsAdded pen.old pen.new text) }
     ensures kept { OnOk result (KeepsTurned (S.kept sink.old) (S.kept sink.new) (talk fleet.old.session) (talk fleet.new.session)) }
+    ensures logged { OnOk result ((chapters : List (ChapterView Global)) → Stands (S.journal sink.old) chapters (chapter_in fleet.old.session.world.core)
+        → GoesOnce (fleet_of fleet.old) (fleet_of fleet.new) chapters (S.journal sink.old) (S.journal sink.new)) }
     ensures err { OnErr result (IsKept pen.old pen.new) }
     ensures midway { IfErr result (λ fault. IsMidway fault) }
 {
@@ -70,6 +74,8 @@ fn answer<R: Alloc<A = Global>, I, W: Write, S: ChapterSink>(
     ensures kept { OnOk result (KeepsTurned (S.kept ends.old.sink) (S.kept ends.new.sink) (talk fleet.old.session) (talk fleet.new.session)) }
     ensures broken { IfErr result (λ fault. TalksUntil fault pen.old.settings.roll (fleet_of fleet.old) (acts_on pen.old.settings (line_shown line.entry))
         (W.contents ends.old.output) (W.contents ends.new.output) pen.old.out.items pen.new.out.items) }
+    ensures logged { OnOk result (AllBacked pen.old.settings.roll (fleet_of fleet.old) (fleet_of fleet.new) (acts_on pen.old.settings (line_shown line.entry)) (W.contents ends.old.output) (W.contents ends.new.output) pen.old.out.items (S.journal ends.old.sink) (S.journal ends.new.sink)) }
+    ensures cut { IfErr result (λ fault. fault ≡ TalkFault.Output → PartBacked pen.old.settings.roll (fleet_of fleet.old) (acts_on pen.old.settings (line_shown line.entry)) (W.contents ends.old.output) (W.contents ends.new.output) pen.old.out.items (S.journal ends.old.sink) (S.journal ends.new.sink)) }
     ensures settings { pen.new.settings ≡ pen.old.settings }
     ensures input { ends.new.input ≡ ends.old.input }
 {
@@ -104,6 +110,10 @@ pub(crate) fn go_on<R: Alloc<A = Global>, I: Read, W: Write, S: ChapterSink>(
     ensures broken { IfErr result (λ fault. IfSome (reader_remaining I.remaining ends.old.input) (λ xs.
         TalksUntil fault pen.old.settings.roll (fleet_of fleet.old) (acts_from pen.old.settings entrance.entry.door.now.refused.marks.items entrance.entry.first (bytes.old.items ∷ heard_lines xs))
         (W.contents ends.old.output) (W.contents ends.new.output) pen.old.out.items pen.new.out.items)) }
+    ensures logged { OnOk result (IfSome (reader_remaining I.remaining ends.old.input) (λ xs. AllBacked pen.old.settings.roll (fleet_of fleet.old) (fleet_of fleet.new) (acts_from pen.old.settings entrance.entry.door.now.refused.marks.items entrance.entry.first (bytes.old.items ∷ heard_lines xs))
+        (W.contents ends.old.output) (W.contents ends.new.output) pen.old.out.items (S.journal ends.old.sink) (S.journal ends.new.sink))) }
+    ensures cut { IfErr result (λ fault. fault ≡ TalkFault.Output → IfSome (reader_remaining I.remaining ends.old.input) (λ xs. PartBacked pen.old.settings.roll (fleet_of fleet.old) (acts_from pen.old.settings entrance.entry.door.now.refused.marks.items entrance.entry.first (bytes.old.items ∷ heard_lines xs))
+        (W.contents ends.old.output) (W.contents ends.new.output) pen.old.out.items (S.journal ends.old.sink) (S.journal ends.new.sink))) }
 {
     for number in entrance.first..u64::MAX {
         let line = line_let_in(&entrance.door.refused, number, bytes);

@@ -1,8 +1,12 @@
 //! When what was said is written.
 
-ghost use Rattle.std.specs.Prelude.{◌≡◌, ◌≤◌, [], OnOk, IfErr};
+ghost use Rattle.std.specs.Prelude.{◌≡◌, ◌≤◌, List, [], OnOk, IfErr, true};
+ghost use Rattle.std.specs.declared.alloc.Global.{Global};
 ghost use Rattle.std.specs.Io.Buffered.{reader_buffer};
+ghost use Rattle.fleet_text.specs.Transfer.{AppendsPrefix};
+ghost use Rattle.fleet_talk.specs.Backed.{BacksUp, Stands, Tells};
 ghost use Rattle.fleet_talk.specs.Broken.{SaysUntil};
+ghost use Rattle.fleet_talk.specs.Chapters.{ChapterView, chapter_in};
 ghost use Rattle.fleet_talk.specs.Due.{IsDone, has_line};
 ghost use Rattle.fleet_talk.specs.Says.{Says};
 
@@ -18,6 +22,8 @@ fn write_now<W: Write>(pen: &mut Pen, output: &mut W) -> Result<(), TalkFault>
     ensures broken { IfErr result (λ fault. SaysUntil fault (W.contents output.old) (W.contents output.new) pen.old.out.items pen.new.out.items []) }
     ensures waits { pen.new.out.items ≡ [] }
     ensures settings { pen.new.settings ≡ pen.old.settings }
+    ensures prefix { AppendsPrefix (W.contents output.old) (W.contents output.new) pen.old.out.items }
+    ensures mute { pen.old.is_mute ≡ true → W.contents output.new ≡ W.contents output.old }
 {
     if pen.write_out(output) {
         Ok(())
@@ -59,6 +65,8 @@ pub(crate) fn back_up<S: ChapterSink>(session: &Session, sink: &mut S, pen: &mut
     ensures kept { S.kept sink.new ≡ S.kept sink.old }
     ensures out { pen.new.out.items ≡ pen.old.out.items }
     ensures settings { pen.new.settings ≡ pen.old.settings }
+    ensures backs_up { (chapters : List (ChapterView Global)) → Stands (S.journal sink.old) chapters (chapter_in session.now.world.core)
+        → BacksUp (S.journal sink.old) (S.journal sink.new) chapters (chapter_in session.now.world.core) pen.old.out.items pen.new.is_mute }
 {
     if !pen.out.is_empty() && !sink.log(session.world.chapter()) {
         pen.is_mute = true;
@@ -78,6 +86,8 @@ fn tell_now<I, W: Write, S: ChapterSink>(
     ensures settings { pen.new.settings ≡ pen.old.settings }
     ensures input { ends.new.input ≡ ends.old.input }
     ensures kept { S.kept ends.new.sink ≡ S.kept ends.old.sink }
+    ensures tells { (chapters : List (ChapterView Global)) → Stands (S.journal ends.old.sink) chapters (chapter_in session.now.world.core)
+        → Tells (S.journal ends.old.sink) (S.journal ends.new.sink) chapters (chapter_in session.now.world.core) (W.contents ends.old.output) (W.contents ends.new.output) pen.old.out.items }
 {
     back_up(session, &mut ends.sink, pen);
     write_now(pen, &mut ends.output)
@@ -95,6 +105,8 @@ pub(crate) fn tell_if_full<I, W: Write, S: ChapterSink>(
     ensures settings { pen.new.settings ≡ pen.old.settings }
     ensures input { ends.new.input ≡ ends.old.input }
     ensures kept { S.kept ends.new.sink ≡ S.kept ends.old.sink }
+    ensures tells { (chapters : List (ChapterView Global)) → Stands (S.journal ends.old.sink) chapters (chapter_in session.now.world.core)
+        → Tells (S.journal ends.old.sink) (S.journal ends.new.sink) chapters (chapter_in session.now.world.core) (W.contents ends.old.output) (W.contents ends.new.output) pen.old.out.items }
 {
     if !pen.is_full() {
         return Ok(());
@@ -116,6 +128,8 @@ pub(crate) fn tell_if_due<I: Read, W: Write, S: ChapterSink>(
     ensures settings { pen.new.settings ≡ pen.old.settings }
     ensures input { ends.new.input ≡ ends.old.input }
     ensures kept { S.kept ends.new.sink ≡ S.kept ends.old.sink }
+    ensures tells { (chapters : List (ChapterView Global)) → Stands (S.journal ends.old.sink) chapters (chapter_in session.now.world.core)
+        → Tells (S.journal ends.old.sink) (S.journal ends.new.sink) chapters (chapter_in session.now.world.core) (W.contents ends.old.output) (W.contents ends.new.output) pen.old.out.items }
 {
     if has_line(ends.input.buffer()) {
         return tell_if_full(session, ends, pen);

@@ -27,15 +27,15 @@ use Rattle.fleet_view.specs.Verdicts.{verdict_text, verdicts_text}
 use Rattle.fleet_view.specs.Page.{rows_text, map_text, chapters_text}
 use Rattle.fleet_view.specs.Closed.{is_other, HasNoTag}
 
-and-intro : (a b : Bool) → a ≡ true → b ≡ true → (a && b) ≡ true
+pub and-intro : (a b : Bool) → a ≡ true → b ≡ true → (a && b) ≡ true
 and-intro true b e f = f
 and-intro false b e f = e
 
-and-left : (a b : Bool) → (a && b) ≡ true → a ≡ true
+pub and-left : (a b : Bool) → (a && b) ≡ true → a ≡ true
 and-left true b e = refl
 and-left false b e = e
 
-and-right : (a b : Bool) → (a && b) ≡ true → b ≡ true
+pub and-right : (a b : Bool) → (a && b) ≡ true → b ≡ true
 and-right true b e = e
 and-right false b e = absurd cc
 
@@ -59,7 +59,7 @@ digits-onto (suc k) n after e =
     let more : HasNoTag (digit_glyph false (n % 10) ∷ after) = and-intro (is_other (digit_glyph false (n % 10))) (list_all is_other after) (glyph (n % 10)) e in
     by_if (n / 10 == 0) (digit_glyph false (n % 10) ∷ after) (digits_onto k 10 false (n / 10) (digit_glyph false (n % 10) ∷ after)) more (digits-onto k (n / 10) (digit_glyph false (n % 10) ∷ after) more)
 
-decimal-closed : (n : ℕ) → HasNoTag (decimal n)
+pub decimal-closed : (n : ℕ) → HasNoTag (decimal n)
 unfolding digits
 decimal-closed n = digits-onto 64 n [] refl
 
@@ -164,7 +164,7 @@ closed-chapters (t ∷ ts) = both (trace_text t ++ codes "\n") (chapters_text ts
 
 -- ---- verdicts
 
-closed-verdict : (v : ChapterVerdict) → HasNoTag (verdict_text v)
+pub closed-verdict : (v : ChapterVerdict) → HasNoTag (verdict_text v)
 closed-verdict Legal = refl
 closed-verdict (Illegal at rule) =
     let begun = both (codes "illegal ") (decimal at) refl (decimal-closed at) in

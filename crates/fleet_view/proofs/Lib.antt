@@ -3,3 +3,7 @@ pub mod Verdicts
 pub mod Made
 pub mod Pieces
 pub mod Closed
+pub mod Signs
+pub mod Told
+pub mod ClosedRuns
+pub mod Paired

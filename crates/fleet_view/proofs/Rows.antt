@@ -7,6 +7,7 @@ use Rattle.fleet_view.specs.Verdicts.{verdicts_text}
 use Rattle.fleet_view.specs.Page.{rows_text, chapters_text, page_text}
 use Rattle.fleet_view.specs.declared.frame.TheConstants.{HEAD, VERDICTS, TRACES}
 use Rattle.fleet_view.specs.declared.script.TheConstants.{TAIL}
+use Rattle.fleet_view.specs.declared.ending.TheConstants.{END}
 
 module _ (n k width : ℕ) (less : k < n) where
   one-more : n - k ≡ suc (n - (k + 1))
@@ -26,7 +27,7 @@ module _ (n k width : ℕ) (less : k < n) where
       ap length behind-is ∙ length-drop width rest ∙ omega (arith, all)
 
 -- the pieces of a page, one written after the other
-pub page-is : {A : Type 0} (m : Map) (vs : List ChapterVerdict) (ts : List (Trace A)) (head a b cells c before d e middle f g tail : List ℕ) → a ≡ head → head ≡ HEAD.now → b ≡ a ++ rows_text m.height m.width cells → cells ≡ m.cells
-    → c ≡ b ++ before → before ≡ VERDICTS.now → d ≡ c ++ verdicts_text vs → e ≡ d ++ middle → middle ≡ TRACES.now → f ≡ e ++ chapters_text ts → g ≡ f ++ tail → tail ≡ TAIL.now → g ≡ page_text m vs ts
-page-is m vs ts head a b cells c before d e middle f g tail a-is head-is b-is cells-is c-is before-is d-is e-is middle-is f-is g-is tail-is =
-    rw (g-is, tail-is, f-is, e-is, middle-is, d-is, c-is, before-is, b-is, cells-is, a-is, head-is) refl
+pub page-is : {A : Type 0} (m : Map) (vs : List ChapterVerdict) (ts : List (Trace A)) (head a b cells c before d e middle f g tail h end : List ℕ) → a ≡ head → head ≡ HEAD.now → b ≡ a ++ rows_text m.height m.width cells → cells ≡ m.cells
+    → c ≡ b ++ before → before ≡ VERDICTS.now → d ≡ c ++ verdicts_text vs → e ≡ d ++ middle → middle ≡ TRACES.now → f ≡ e ++ chapters_text ts → g ≡ f ++ tail → tail ≡ TAIL.now → h ≡ g ++ end → end ≡ END.now → h ≡ page_text m vs ts
+page-is m vs ts head a b cells c before d e middle f g tail h end a-is head-is b-is cells-is c-is before-is d-is e-is middle-is f-is g-is tail-is h-is end-is =
+    rw (h-is, end-is, g-is, tail-is, f-is, e-is, middle-is, d-is, c-is, before-is, b-is, cells-is, a-is, head-is) refl

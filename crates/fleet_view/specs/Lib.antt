@@ -4,3 +4,7 @@ pub mod Cells
 pub mod Picture
 pub mod View
 pub mod Closed
+pub mod Placed
+pub mod Runs
+pub mod Logs
+pub mod Pair

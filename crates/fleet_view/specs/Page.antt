@@ -6,6 +6,7 @@ use Rattle.fleet_trace.specs.Trace.{Trace}
 use Rattle.fleet_trace.specs.Text.{trace_text}
 use Rattle.fleet_view.specs.declared.frame.TheConstants.{HEAD, VERDICTS, TRACES}
 use Rattle.fleet_view.specs.declared.script.TheConstants.{TAIL}
+use Rattle.fleet_view.specs.declared.ending.TheConstants.{END}
 use Rattle.fleet_view.specs.declared.verdict.ChapterVerdict.{ChapterVerdict}
 use Rattle.fleet_view.specs.Verdicts.{verdicts_text}
 
@@ -24,4 +25,4 @@ chapters_text ts = flat_map (λ t. trace_text t ++ codes "\n") ts
 
 -- the page of a map and of traces on it, with these verdicts
 abbrev pub page_text : {A : Type 0} → Map → List ChapterVerdict → List (Trace A) → List ℕ
-page_text m vs ts = HEAD.now ++ map_text m ++ VERDICTS.now ++ verdicts_text vs ++ TRACES.now ++ chapters_text ts ++ TAIL.now
+page_text m vs ts = HEAD.now ++ map_text m ++ VERDICTS.now ++ verdicts_text vs ++ TRACES.now ++ chapters_text ts ++ TAIL.now ++ END.now

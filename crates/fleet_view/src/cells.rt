@@ -54,7 +54,7 @@ fn are_entries_on(cells: usize, entries: &[Entry]) -> bool
 }
 
 /// Whether the map has the cells of a chapter's opening and ticks.
-fn is_chapter_on(cells: usize, chapter: &Chapter) -> bool
+pub(crate) fn is_chapter_on(cells: usize, chapter: &Chapter) -> bool
     ensures { result ≡ is_trace_on cells (trace_of chapter.now) }
 {
     are_robots_on(cells, chapter.opening.robots.as_slice())

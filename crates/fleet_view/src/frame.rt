@@ -40,9 +40,15 @@ main { display: grid; grid-template-columns: minmax(0, 1fr) clamp(340px, 26vw, 4
   .told-of { order: -2; }
   .choices { order: -1; }
 }
+main.runs .map { order: 0; }
+main.runs { display: flex; flex-direction: column; align-items: stretch; }
+.sides { display: grid; grid-template-columns: minmax(0, 1fr); gap: 14px; }
+/* the time stays in sight where the maps are below each other */
+@media (max-width: 900px) { main.runs #time { order: 0; position: sticky; bottom: 6px; z-index: 1; } }
+@media (min-width: 901px) { .sides.two { grid-template-columns: repeat(2, minmax(0, 1fr)); } }
 .card { background: var(--card); border: 1px solid var(--line); border-radius: 10px; padding: 12px; min-width: 0; }
-#map { display: block; width: 100%; border-radius: 6px; background: var(--floor); cursor: grab; }
-#map.held { cursor: grabbing; }
+.map canvas { display: block; width: 100%; border-radius: 6px; background: var(--floor); cursor: grab; }
+.map canvas.held { cursor: grabbing; }
 :focus-visible { outline: 2px solid var(--accent); outline-offset: 2px; }
 .together { display: inline-flex; flex-wrap: wrap; gap: 4px; align-items: center; max-width: 100%; }
 .together button { padding: 1px 9px; }
@@ -77,6 +83,7 @@ main { display: grid; grid-template-columns: minmax(0, 1fr) clamp(340px, 26vw, 4
 .sign.shelf { background: var(--shelf); }
 .sign.unroomy { background: var(--fault); opacity: 0.3; }
 .sign.bridge { height: 2px; align-self: center; background: var(--fault); }
+.sign.push { height: 4px; align-self: center; background: var(--mark); }
 .legend li[hidden] { display: none; }
 #roomy-told { margin: 6px 0 0; font-size: 12.5px; }
 dialog { color: var(--ink); background: var(--card); border: 1px solid var(--line); border-radius: 10px; max-width: 560px; }
@@ -98,6 +105,8 @@ label { display: inline-flex; gap: 5px; align-items: center; }
 .figures { display: grid; grid-template-columns: 1fr 1fr; gap: 8px 12px; margin: 0; }
 .figures dt { color: var(--soft); font-size: 12.5px; }
 .figures dd { margin: 0; font-size: 22px; font-weight: 600; font-variant-numeric: tabular-nums; }
+dl.wide { grid-template-columns: repeat(auto-fill, minmax(110px, 1fr)); margin-top: 10px; }
+.wide dd { font-size: 17px; }
 #bound { font-size: 12.5px; min-height: 2.9em; margin-top: 6px; }
 .chart { cursor: pointer; display: block; width: 100%; height: 92px; }
 .scroll { overflow: auto; max-height: 170px; margin: 0; padding: 0; }
@@ -167,6 +176,8 @@ tr.picked > * { background: color-mix(in srgb, var(--accent) 30%, transparent); 
 <li><span class="sign shelf"></span>tree or water</li>
 <li class="of-roomy" hidden><span class="sign unroomy"></span>not roomy for these robots</li>
 <li class="of-roomy" hidden><span class="sign bridge"></span>bridge</li>
+<li class="of-turns" hidden><span class="sign push"></span>pushes the robot at its end</li>
+<li class="of-turns" hidden>1. comes first in the next step</li>
 <li><span class="sign mark chapter"></span>a chapter begins</li>
 <li><span class="sign mark shutting"></span>a robot is shut</li>
 <li><span class="sign mark refusal"></span>an order is refused</li>
@@ -187,6 +198,7 @@ tr.picked > * { background: color-mix(in srgb, var(--accent) 30%, transparent); 
 <label title="The current goal of each robot"><input type="checkbox" id="show-goals" checked> goals</label>
 <label title="From each robot to its goal"><input type="checkbox" id="show-lines" checked> lines</label>
 <label title="Bridges, and the cells that are not roomy for these robots: errands there may block them all for ever"><input type="checkbox" id="show-roomy"> bridges</label>
+<label title="In which order the next step is planned, by the robots' waits, where robots go, and which robot pushes which"><input type="checkbox" id="show-turns"> turns</label>
 <label title="Keeps the picked robot in the middle"><input type="checkbox" id="follow"> follow</label>
 <span class="together" role="group" aria-label="Zoom">
 <button type="button" id="zoom-out" aria-label="Zoom out">&minus;</button>
@@ -223,7 +235,7 @@ tr.picked > * { background: color-mix(in srgb, var(--accent) 30%, transparent); 
 <select id="events-robot" aria-label="Robot"></select>
 </div>
 <ol id="events" class="scroll tall" tabindex="0" aria-label="All events"></ol></section>
-<section class="card"><h2>Robots</h2><div class="scroll tall" tabindex="0" role="region" aria-label="Robots"><table><thead><tr><th scope="col">robot</th><th scope="col">cell</th><th scope="col">goal</th><th scope="col">queue</th><th scope="col">wait</th><th scope="col">state</th></tr></thead><tbody id="robots"></tbody></table></div></section>
+<section class="card"><h2>Robots</h2><div class="scroll tall" tabindex="0" role="region" aria-label="Robots"><table><thead><tr><th scope="col">robot</th><th scope="col">cell</th><th scope="col">goal</th><th scope="col">queue</th><th scope="col">wait</th><th scope="col" title="The place in the order in which the next step is planned">turn</th><th scope="col">state</th></tr></thead><tbody id="robots"></tbody></table></div></section>
 </aside>
 </main>
 <dialog id="help" aria-label="Keys">
@@ -241,6 +253,7 @@ tr.picked > * { background: color-mix(in srgb, var(--accent) 30%, transparent); 
 <tr><th>F</th><td>keeps the picked robot in the middle</td></tr>
 <tr><th>Esc</th><td>all robots again</td></tr>
 <tr><th>H G L R</th><td>heat, goals, lines, bridges with the cells that are not roomy</td></tr>
+<tr><th>P</th><td>turns: in which order the next step is planned, by waits, and which robot pushes which</td></tr>
 <tr><th>J</th><td>jams: the heat of cells on which robots with an errand stood in the last 100 ticks</td></tr>
 <tr><th>Y</th><td>copies the link to what is shown</td></tr>
 <tr><th>?</th><td>shows this</td></tr>
@@ -248,6 +261,46 @@ tr.picked > * { background: color-mix(in srgb, var(--accent) 30%, transparent); 
 <form method="dialog"><button>close</button></form>
 </dialog>
 <p id="announce" class="unseen" aria-live="polite"></p>
+<template id="runs-page">
+<header>
+<h1>Fleet</h1>
+<p id="summary"></p>
+</header>
+<main class="runs">
+<div id="sides" class="sides"></div>
+<section id="time" class="card" aria-label="Time">
+<div class="bar" role="group" aria-label="Time">
+<button type="button" id="play" aria-label="Play">&#9654;</button>
+<button type="button" id="back" aria-label="One tick back">&#8249;</button>
+<button type="button" id="on" aria-label="One tick on">&#8250;</button>
+<span class="track"><input type="range" id="slider" min="0" max="0" value="0" step="1" aria-label="Tick"><span id="marks" aria-hidden="true"></span></span>
+<span id="clock"></span>
+</div>
+</section>
+<section class="card" aria-label="View">
+<div class="bar" role="group" aria-label="What is shown">
+<span class="together" role="group" aria-label="Speed">
+<button type="button" id="slower" aria-label="Slower">&minus;</button>
+<span id="speed"></span>
+<button type="button" id="faster" aria-label="Faster">+</button>
+</span>
+<label title="The goal of each robot: of a plan its last cell"><input type="checkbox" id="show-goals"> goals</label>
+<label title="From each robot to its goal"><input type="checkbox" id="show-lines"> lines</label>
+<span class="together" role="group" aria-label="Zoom">
+<button type="button" id="zoom-out" aria-label="Zoom out">&minus;</button>
+<button type="button" id="zoom-in" aria-label="Zoom in">+</button>
+<button type="button" id="zoom-fit" aria-label="Show the whole map">fit</button>
+</span>
+</div>
+<p id="hover" class="soft"></p>
+<p class="robot"><span id="picked"></span> <button type="button" id="unpick" hidden>all robots</button></p>
+<p id="keys" class="soft">Space plays, arrow keys go a tick back or on, B and N to the conflict before or after, + and &minus; zoom, W A S D move the map, [ and ] pick a robot, G and L draw goals and lines. A click on a robot picks it. Grey: has no errand, or stays where it is until the end. A dashed line: waits for the robot at its end.</p>
+</section>
+<section id="conflicts-card" class="card" hidden><h2>Conflicts <span id="conflicts-count" class="told"></span></h2><ol id="events" class="scroll tall" tabindex="0" aria-label="Conflicts"></ol></section>
+</main>
+<template id="run-part"><section class="card map"><h2></h2><canvas tabindex="0" role="img" aria-describedby="keys"></canvas><dl class="figures wide"></dl></section></template>
+<p id="announce" class="unseen" aria-live="polite"></p>
+</template>
 <script type="text/plain" id="map-rows">
 "##;
 

@@ -8,6 +8,7 @@ ghost use Rattle.fleet_view.specs.declared.verdict.ChapterVerdict.TheVariants.{I
 ghost use Rattle.fleet_view.specs.Page.{rows_text, chapters_text, page_text};
 ghost use Rattle.fleet_view.specs.Verdicts.{verdict_text, verdicts_text};
 
+use crate::ending::END;
 use crate::frame::{HEAD, TRACES, VERDICTS};
 use crate::script::TAIL;
 use crate::verdict::ChapterVerdict;
@@ -17,7 +18,12 @@ use fleet_trace::write_trace;
 use std::alloc::{AllocError, Global};
 
 /// The rows of a map, one line for each.
-fn write_rows(out: &mut Vec<u8>, height: u32, width: u32, cells: &[u8]) -> Result<(), AllocError>
+pub(crate) fn write_rows(
+    out: &mut Vec<u8>,
+    height: u32,
+    width: u32,
+    cells: &[u8],
+) -> Result<(), AllocError>
     requires { length cells.now ≡ height * width }
     ensures { OnOk result (out.new.items ≡ out.old.items ++ rows_text height width cells.now) }
 {
@@ -40,7 +46,7 @@ fn illegal_text(alloc: Global, at: u64, rule: u8) -> Result<String, AllocError>
 }
 
 /// A verdict's line.
-fn verdict_text(alloc: Global, verdict: ChapterVerdict) -> Result<String, AllocError>
+pub(crate) fn verdict_text(alloc: Global, verdict: ChapterVerdict) -> Result<String, AllocError>
     ensures { IfOk result (λ text. string_bytes text ≡ verdict_text verdict) }
 {
     match verdict {
@@ -93,5 +99,6 @@ pub fn page_of(
     out.extend_from_slice(TRACES.as_bytes())?;
     write_chapters(alloc, &mut out, chapters)?;
     out.extend_from_slice(TAIL.as_bytes())?;
+    out.extend_from_slice(END.as_bytes())?;
     Ok(out)
 }

@@ -1,6 +1,6 @@
 //! The page's script. Written by `tools/view/embed --write` from `tools/view`.
 
-/// The page after the traces.
+/// The page after the traces, up to the parts of the script that are about runs.
 pub(crate) const TAIL: &str = r##"</script>
 <script>
 'use strict';
@@ -395,6 +395,27 @@ function conflictsText(count) {
   return `${count} conflict${count === 1 ? '' : 's'} in all: ${listed} among the events, with the tick.`;
 }
 
+const MOST_BANNERS = 5;
+
+// The lines of the banner, with a jump to each fault.
+function bannerLines(replay, jump) {
+  const { faults, conflicts } = replay;
+  const lines = faults.slice(0, MOST_BANNERS).map((fault) => {
+    const line = document.createElement('p');
+    const button = document.createElement('button');
+    button.type = 'button';
+    button.className = 'jump';
+    button.textContent = `Show tick ${replay.clockAt(fault.frame)}`;
+    button.addEventListener('click', () => jump(fault.frame));
+    const of = replay.chapters.length > 1 ? `Chapter ${fault.chapter} is ` : 'This trace is ';
+    line.append(`${of}${faultText(fault)}. `, button);
+    return line;
+  });
+  if (faults.length > MOST_BANNERS) lines.push(`${faults.length - MOST_BANNERS} more chapters are illegal.`);
+  if (conflicts > 0) lines.push(conflictsText(conflicts));
+  return lines;
+}
+
 // ---- what stands at a frame, and how it changes
 
 // A robot as an opening has it at this frame.
@@ -702,6 +723,21 @@ class Replay {
     while (this.state.frame > frame) this.back();
   }
 
+  // Whose turn it is in the next tick; worked out once a frame.
+  turnsNow() {
+    if (this.stepTurns?.frame !== this.state.frame) this.stepTurns = stepTurns(this);
+    return this.stepTurns;
+  }
+
+  // The robots' cells after the next tick.
+  cellsAfter() {
+    const { frame, cells } = this.state;
+    const next = cells.slice();
+    if (frame === this.last) return next;
+    for (let at = this.moveStart[frame + 1]; at < this.moveStart[frame + 2]; at += 1) next[this.moveRobot[at]] += this.moveDelta[at];
+    return next;
+  }
+
   waitOf(robot) {
     const since = this.state.since[robot];
     return since === since ? this.state.frame - since : null;
@@ -757,6 +793,62 @@ class Replay {
     }
     return low < this.moveStart[frame + 1] && this.moveRobot[low] === robot ? this.moveDelta[low] : 0;
   }
+}
+
+// ---- whose turn it is in a step, and who pushes whom
+
+// The robots in the order in which a step is planned: by their waits, the longest first, those without an errand last; of
+// two alike the one with the lesser number.
+function orderOf(waits) {
+  const before = (one, other) => (waits[other] ?? -1) - (waits[one] ?? -1) || one - other;
+  return Array.from(waits.keys()).sort(before);
+}
+
+// For each robot its place in the order, from 1.
+function turnsOf(order) {
+  const turns = new Int32Array(order.length);
+  order.forEach((robot, place) => { turns[robot] = place + 1; });
+  return turns;
+}
+
+// For each robot the one that pushes it in a step from some cells to others, else -1. A robot pushes the one whose cell it comes
+// to, if that one had no cell yet: neither its turn had come, nor had it been pushed.
+function pushesOf(cells, next, order) {
+  const pushedBy = new Int32Array(cells.length).fill(-1);
+  const placed = new Uint8Array(cells.length);
+  const at = new Map();
+  cells.forEach((cell, robot) => at.set(cell, robot));
+  for (const first of order) {
+    let robot = first;
+    while (robot !== undefined && !placed[robot]) {
+      placed[robot] = 1;
+      const other = next[robot] === cells[robot] ? undefined : at.get(next[robot]);
+      // one that stays was not pushed away: there is a conflict
+      if (other === undefined || placed[other] || next[other] === cells[other]) break;
+      pushedBy[other] = robot;
+      robot = other;
+    }
+  }
+  return pushedBy;
+}
+
+// The order at a replay's frame, and who pushes whom in the next tick; null after the last one, and where it breaks a rule.
+function stepTurns(replay) {
+  const { frame, cells } = replay.state;
+  const waits = Array.from(cells, (_, robot) => replay.waitOf(robot));
+  const order = orderOf(waits);
+  const known = frame < replay.last && replay.faultsAt(frame + 1).length === 0;
+  const next = known ? replay.cellsAfter() : null;
+  return { frame, turns: turnsOf(order), next, pushedBy: known ? pushesOf(cells, next, order) : null };
+}
+
+function turnText({ turns, pushedBy }, robot) {
+  const texts = [`Its turn is number ${turns[robot]} of ${turns.length}.`];
+  if (pushedBy === null) return texts[0];
+  if (pushedBy[robot] >= 0) texts.push(`Robot ${pushedBy[robot]} pushes it in the next tick.`);
+  const pushed = pushedBy.indexOf(robot);
+  if (pushed >= 0) texts.push(`It pushes robot ${pushed}.`);
+  return texts.join(' ');
 }
 
 // ---- the bound on waits
@@ -935,17 +1027,26 @@ class MapPlace {
     // the zoom, 1 where the whole map is shown, and the place of the map that is in the middle, in cells
     this.zoom = 1;
     this.middle = { x: map.width / 2, y: map.height / 2 };
+    this.leastHigh = LEAST_HIGH;
   }
 
-  // The map is as high as it can be with its slider in the window; in one column it leaves room for what is told below it. Zoom
-  // and middle stay.
+  // How far down on the page the map begins.
+  above() {
+    return this.canvas.getBoundingClientRect().top + window.scrollY;
+  }
+
+  // How high the map may be: with its slider in the window; in one column it leaves room for what is told below it.
+  room() {
+    const isOneColumn = matchMedia('(max-width: 900px)').matches;
+    const below = isOneColumn ? window.innerHeight * 0.25 : element('time').offsetHeight + BELOW;
+    return Math.max(LEAST_HIGH, window.innerHeight - this.above() - below);
+  }
+
+  // The map is as high as it can be. Zoom and middle stay.
   resize() {
     const { height, width } = this.map;
     const room = this.canvas.clientWidth;
-    const above = this.canvas.getBoundingClientRect().top + window.scrollY;
-    const isOneColumn = matchMedia('(max-width: 900px)').matches;
-    const below = isOneColumn ? window.innerHeight * 0.25 : element('time').offsetHeight + BELOW;
-    const high = Math.max(LEAST_HIGH, Math.min(room * height / width, window.innerHeight - above - below));
+    const high = Math.max(this.leastHigh, Math.min(room * height / width, this.room()));
     this.ratio = window.devicePixelRatio || 1;
     this.canvas.style.height = `${high}px`;
     this.canvas.width = Math.round(room * this.ratio);
@@ -1026,6 +1127,79 @@ class MapPlace {
     const { width } = this.map;
     const { view } = this;
     return [view.left + (cell % width + 0.5) * view.scale, view.top + (Math.floor(cell / width) + 0.5) * view.scale];
+  }
+}
+
+// ---- the map without what is on it
+
+class MapFloor extends MapPlace {
+  constructor(canvas, map) {
+    super(canvas, map);
+    this.pen = canvas.getContext('2d');
+  }
+
+  // A canvas of one pixel a cell, which is drawn larger.
+  cellCanvas() {
+    const canvas = document.createElement('canvas');
+    canvas.width = this.map.width;
+    canvas.height = this.map.height;
+    return canvas;
+  }
+
+  paintLetters(colours) {
+    const { height, width, letters, floor } = this.map;
+    this.colours = colours;
+    this.ground = this.cellCanvas();
+    const pen = this.ground.getContext('2d');
+    pen.fillStyle = colours.floor;
+    pen.fillRect(0, 0, width, height);
+    for (let cell = 0; cell < floor.length; cell += 1) {
+      if (floor[cell]) continue;
+      pen.fillStyle = letters[cell] === 'T' || letters[cell] === 'W' ? colours.shelf : colours.wall;
+      pen.fillRect(cell % width, Math.floor(cell / width), 1, 1);
+    }
+  }
+
+  drawCells(canvas) {
+    const { view, map } = this;
+    this.pen.drawImage(canvas, view.left, view.top, map.width * view.scale, map.height * view.scale);
+  }
+
+  // What an extension draws between the floor and the lines of the map.
+  drawOnFloor() {}
+
+  drawGround(numbered) {
+    const { pen, view, map, colours, canvas } = this;
+    pen.setTransform(1, 0, 0, 1, 0, 0);
+    pen.globalAlpha = 1;
+    pen.fillStyle = colours.card;
+    pen.fillRect(0, 0, canvas.width, canvas.height);
+    pen.imageSmoothingEnabled = false;
+    this.drawCells(this.ground);
+    this.drawOnFloor();
+    pen.strokeStyle = colours.line;
+    pen.lineWidth = 1;
+    pen.strokeRect(view.left, view.top, map.width * view.scale, map.height * view.scale);
+    if (numbered) this.drawGrid();
+  }
+
+  drawGrid() {
+    const { pen, view, colours } = this;
+    const { height, width } = this.map;
+    pen.strokeStyle = colours.grid;
+    pen.lineWidth = 1;
+    pen.beginPath();
+    for (let column = 0; column <= width; column += 1) {
+      const x = Math.round(view.left + column * view.scale) + 0.5;
+      pen.moveTo(x, view.top);
+      pen.lineTo(x, view.top + height * view.scale);
+    }
+    for (let row = 0; row <= height; row += 1) {
+      const y = Math.round(view.top + row * view.scale) + 0.5;
+      pen.moveTo(view.left, y);
+      pen.lineTo(view.left + width * view.scale, y);
+    }
+    pen.stroke();
   }
 }
 
@@ -1133,65 +1307,30 @@ class Heat {
   }
 }
 
-// ---- what lies under the robots: letters, heat, bridges and cells that are not roomy, grid
+// ---- what lies under the robots: heat, bridges and cells that are not roomy
 
 const ROOMY_STRENGTH = 0.3;
 // a bridge's line, in cells
 const BRIDGE_WIDTH = 0.14;
 
-class MapGround extends MapPlace {
+class MapGround extends MapFloor {
   constructor(canvas, replay) {
     super(canvas, replay.map);
-    this.pen = canvas.getContext('2d');
     this.replay = replay;
     this.heat = new Heat(replay);
   }
 
-  // A canvas of one pixel a cell, which is drawn larger.
-  cellCanvas() {
-    const canvas = document.createElement('canvas');
-    canvas.width = this.map.width;
-    canvas.height = this.map.height;
-    return canvas;
-  }
-
   paintLetters(colours) {
-    const { height, width, letters, floor } = this.map;
-    this.colours = colours;
-    this.ground = this.cellCanvas();
+    super.paintLetters(colours);
     this.heatCanvas = this.cellCanvas();
-    this.heatPixels = this.heatCanvas.getContext('2d').createImageData(width, height);
+    this.heatPixels = this.heatCanvas.getContext('2d').createImageData(this.map.width, this.map.height);
     this.shades = shadesOf(colours.heat);
     this.paintedHeat = undefined;
-    const pen = this.ground.getContext('2d');
-    pen.fillStyle = colours.floor;
-    pen.fillRect(0, 0, width, height);
-    for (let cell = 0; cell < floor.length; cell += 1) {
-      if (floor[cell]) continue;
-      pen.fillStyle = letters[cell] === 'T' || letters[cell] === 'W' ? colours.shelf : colours.wall;
-      pen.fillRect(cell % width, Math.floor(cell / width), 1, 1);
-    }
   }
 
-  drawCells(canvas) {
-    const { view, map } = this;
-    this.pen.drawImage(canvas, view.left, view.top, map.width * view.scale, map.height * view.scale);
-  }
-
-  drawGround(numbered) {
-    const { pen, view, map, colours, canvas } = this;
-    pen.setTransform(1, 0, 0, 1, 0, 0);
-    pen.globalAlpha = 1;
-    pen.fillStyle = colours.card;
-    pen.fillRect(0, 0, canvas.width, canvas.height);
-    pen.imageSmoothingEnabled = false;
-    this.drawCells(this.ground);
+  drawOnFloor() {
     if (this.shows.heat) this.drawHeat();
     if (this.shows.roomy) this.drawRoomy();
-    pen.strokeStyle = colours.line;
-    pen.lineWidth = 1;
-    pen.strokeRect(view.left, view.top, map.width * view.scale, map.height * view.scale);
-    if (numbered) this.drawGrid();
   }
 
   // Once, when it is first asked for.
@@ -1252,24 +1391,70 @@ class MapGround extends MapPlace {
     this.mostHeat = heat.most;
     this.heatCanvas.getContext('2d').putImageData(this.heatPixels, 0, 0);
   }
+}
 
-  drawGrid() {
-    const { pen, view, colours } = this;
-    const { height, width } = this.map;
-    pen.strokeStyle = colours.grid;
-    pen.lineWidth = 1;
+// ---- the order of a step on the map: where robots go, who pushes whom, and whose turn it is
+
+// the width of a cell from which on a robot's turn is written, in pixels
+const LEAST_TURN = 26;
+
+class MapTurns extends MapGround {
+  // An arrow from one point to another.
+  drawArrow(x, y, toX, toY, head) {
+    const { pen } = this;
+    const angle = Math.atan2(toY - y, toX - x);
     pen.beginPath();
-    for (let column = 0; column <= width; column += 1) {
-      const x = Math.round(view.left + column * view.scale) + 0.5;
-      pen.moveTo(x, view.top);
-      pen.lineTo(x, view.top + height * view.scale);
-    }
-    for (let row = 0; row <= height; row += 1) {
-      const y = Math.round(view.top + row * view.scale) + 0.5;
-      pen.moveTo(view.left, y);
-      pen.lineTo(view.left + width * view.scale, y);
+    pen.moveTo(x, y);
+    pen.lineTo(toX, toY);
+    for (const side of [-0.5, 0.5]) {
+      pen.moveTo(toX, toY);
+      pen.lineTo(toX - head * Math.cos(angle + side), toY - head * Math.sin(angle + side));
     }
     pen.stroke();
+  }
+
+  // Lines from robots to their next cells, and arrows from robots to those that they push.
+  drawSteps({ next, pushedBy }) {
+    const { pen, view, colours, ratio, xs, ys } = this;
+    if (next === null) return;
+    const wide = Math.max(1.5 * ratio, Math.min(view.scale / 12, 5 * ratio));
+    pen.lineCap = 'round';
+    const pushers = new Set(pushedBy);
+    pushedBy.forEach((pusher, robot) => {
+      if (next[robot] === this.replay.state.cells[robot] || pushers.has(robot)) return;
+      const [x, y] = this.pointOf(next[robot]);
+      pen.strokeStyle = colours.ink;
+      pen.lineWidth = wide;
+      this.drawArrow(xs[robot], ys[robot], xs[robot] + (x - xs[robot]) * 0.85, ys[robot] + (y - ys[robot]) * 0.85, view.scale * 0.16);
+    });
+    pushedBy.forEach((pusher, robot) => {
+      if (pusher < 0) return;
+      pen.strokeStyle = colours.mark;
+      pen.lineWidth = wide * 1.5;
+      const [fromX, fromY] = [xs[pusher], ys[pusher]];
+      this.drawArrow(fromX, fromY, fromX + (xs[robot] - fromX) * 0.8, fromY + (ys[robot] - fromY) * 0.8, view.scale * 0.24);
+    });
+    pen.lineCap = 'butt';
+  }
+
+  // The turn of each robot, above it.
+  drawTurns() {
+    const { pen, view, colours, ratio, replay } = this;
+    const step = replay.turnsNow();
+    this.drawSteps(step);
+    if (view.scale < LEAST_TURN * ratio) return;
+    const size = Math.min(view.scale * 0.24, 18 * ratio);
+    pen.font = `600 ${size.toFixed(1)}px system-ui, sans-serif`;
+    pen.textAlign = 'left';
+    pen.textBaseline = 'top';
+    step.turns.forEach((turn, robot) => {
+      const [left, top] = [this.xs[robot] - view.scale * 0.47, this.ys[robot] - view.scale * 0.47];
+      const text = `${turn}.`;
+      pen.fillStyle = colours.card;
+      pen.fillRect(left, top, pen.measureText(text).width + 4 * ratio, size + 3 * ratio);
+      pen.fillStyle = colours.ink;
+      pen.fillText(text, left + 2 * ratio, top + 2 * ratio);
+    });
   }
 }
 
@@ -1285,10 +1470,10 @@ const SMALL_CELL = 20;
 const CROWDED = 0.24;
 const CROWDED_SIZE = 0.6;
 
-class MapView extends MapGround {
+class MapView extends MapTurns {
   constructor(canvas, replay) {
     super(canvas, replay);
-    this.shows = { heat: false, goals: true, lines: true, roomy: false };
+    this.shows = { heat: false, goals: true, lines: true, roomy: false, turns: false };
     this.picked = null;
     this.follows = false;
     this.pulse = 0;
@@ -1378,6 +1563,7 @@ class MapView extends MapGround {
     if (this.shows.lines) this.drawLines();
     this.drawRobots(fraction);
     if (this.shows.goals) this.drawGoals();
+    if (this.shows.turns) this.drawTurns();
     if (picked !== null) this.drawQueue(picked);
     this.drawFaults();
   }
@@ -1768,7 +1954,7 @@ class RobotTable {
       name.append(button);
       row.append(name);
       body.append(row);
-      const cells = Array.from({ length: 5 }, () => textCell(row));
+      const cells = Array.from({ length: 6 }, () => textCell(row));
       return { row, dot, button, cells, shown: [] };
     });
   }
@@ -1787,6 +1973,7 @@ class RobotTable {
   // Only what changed is written.
   draw(colours, picked) {
     const { replay } = this;
+    const { turns } = replay.turnsNow();
     const { cells, queues, shut, frame } = replay.state;
     for (let robot = 0; robot < replay.robots; robot += 1) {
       const { row, dot, button, cells: places, shown } = this.rows[robot];
@@ -1794,7 +1981,7 @@ class RobotTable {
       const idle = queue.length === 0;
       const wait = replay.waitOf(robot);
       const goal = idle ? '\u2013' : queue[0].cell;
-      const texts = [cells[robot], goal, queue.length, wait ?? '\u2013', stateText(shut[robot], idle)];
+      const texts = [cells[robot], goal, queue.length, wait ?? '\u2013', turns[robot], stateText(shut[robot], idle)];
       texts.forEach((text, place) => {
         if (shown[place] === text) return;
         shown[place] = text;
@@ -1802,13 +1989,13 @@ class RobotTable {
       });
       const colour = idle ? colours.idle : colours.robots[robot].fill;
       const marks = [colour, replay.eldest[frame] === robot, picked === robot];
-      if (shown[5] !== marks[0]) dot.style.background = marks[0];
-      if (shown[6] !== marks[1]) row.classList.toggle('eldest', marks[1]);
-      if (shown[7] !== marks[2]) {
+      if (shown[6] !== marks[0]) dot.style.background = marks[0];
+      if (shown[7] !== marks[1]) row.classList.toggle('eldest', marks[1]);
+      if (shown[8] !== marks[2]) {
         row.classList.toggle('picked', marks[2]);
         button.setAttribute('aria-pressed', marks[2]);
       }
-      [shown[5], shown[6], shown[7]] = marks;
+      [shown[6], shown[7], shown[8]] = marks;
     }
   }
 }
@@ -2134,13 +2321,13 @@ class Player {
 
 // ---- the address: what is shown, as words after `#`
 
-const SHOWN = ['heat', 'goals', 'lines', 'roomy'];
+const SHOWN = ['heat', 'goals', 'lines', 'roomy', 'turns'];
 // what is drawn if nothing is said
 const SHOWN_FIRST = ['goals', 'lines'];
 const ADDRESS_EVERY = 300;
 
 // `t=140` is the tick at which the clock is 140, `robot=3` the picked robot, `zoom=2.5,10,7` shows the map 2.5 times as
-// large with column 10, row 7 in the middle, and `heat=1&goals=0&lines=0&roomy=1` says what is drawn. `heat=stood-100` is the
+// large with column 10, row 7 in the middle, and `heat=1&goals=0&lines=0&roomy=1&turns=1` says what is drawn. `heat=stood-100` is the
 // heat of cells on which robots stood in the last 100 ticks.
 class Address {
   constructor(page) {
@@ -2198,7 +2385,6 @@ class Address {
 
 // ---- what the page shows
 
-const MOST_BANNERS = 5;
 const HEAT_TEXTS = { came: 'a robot came to the cell', stood: 'a robot with an errand stood on the cell' };
 
 function element(name) {
@@ -2251,20 +2437,7 @@ class Page {
     dataset.faultRobots = faults.map((fault) => fault.robots.join(',')).join(' ');
     element('judged').textContent = faults.length === 0 ? 'judged legal' : '';
     element('verdict').hidden = faults.length === 0;
-    const lines = faults.slice(0, MOST_BANNERS).map((fault) => {
-      const line = document.createElement('p');
-      const button = document.createElement('button');
-      button.type = 'button';
-      button.className = 'jump';
-      button.textContent = `Show tick ${this.replay.clockAt(fault.frame)}`;
-      button.addEventListener('click', () => this.player.jump(fault.frame));
-      const of = this.replay.chapters.length > 1 ? `Chapter ${fault.chapter} is ` : 'This trace is ';
-      line.append(`${of}${faultText(fault)}. `, button);
-      return line;
-    });
-    if (faults.length > MOST_BANNERS) lines.push(`${faults.length - MOST_BANNERS} more chapters are illegal.`);
-    if (conflicts > 0) lines.push(conflictsText(conflicts));
-    element('verdict').replaceChildren(...lines);
+    element('verdict').replaceChildren(...bannerLines(this.replay, (frame) => this.player.jump(frame)));
     showMarks(element('marks'), this.replay);
   }
 
@@ -2339,7 +2512,8 @@ class Page {
       this.table.draw(this.colours, this.view.picked);
       showEntries(element('entries'), replay);
       this.events.draw();
-      element('picked').textContent = this.view.picked === null ? '' : robotText(replay, this.view.picked);
+      const { picked } = this.view;
+      element('picked').textContent = picked === null ? '' : `${robotText(replay, picked)} ${turnText(replay.turnsNow(), picked)}`;
     }
     this.publish();
     this.address.follow();
@@ -2369,6 +2543,9 @@ class Page {
     if (!this.player.playing) {
       dataset.waits = queues.map((_, robot) => replay.waitOf(robot) ?? '-').join(' ');
       dataset.moves = replay.moveStart[frame + 1];
+      const { turns, pushedBy } = replay.turnsNow();
+      dataset.turns = turns.join(' ');
+      dataset.pushes = pushedBy === null ? 'unknown' : pushedBy.join(' ');
     }
   }
 
@@ -2413,6 +2590,7 @@ class Page {
     element(`show-${name}`).checked = on;
     if (name === 'heat') element('heat-scale').hidden = !on;
     if (name === 'roomy') this.tellRoomy(on);
+    if (name === 'turns') for (const item of document.querySelectorAll('.of-turns')) item.hidden = !on;
   }
 
   show(name, on) {
@@ -2547,6 +2725,7 @@ function keysOf(page) {
     g: toggle('goals'),
     l: toggle('lines'),
     r: toggle('roomy'),
+    p: toggle('turns'),
     j: () => {
       page.chooseHeat('stood', 100);
       page.draw();
@@ -2556,12 +2735,11 @@ function keysOf(page) {
   };
 }
 
-function listenToKeys(page) {
-  const keys = keysOf(page);
+function listenToKeys(keys) {
   window.addEventListener('keydown', (event) => {
     // on many keyboards [ and ] are typed with AltGr or Option
     const typed = event.key === '[' || event.key === ']';
-    if (event.metaKey || ((event.ctrlKey || event.altKey) && !typed) || element('help').open) return;
+    if (event.metaKey || ((event.ctrlKey || event.altKey) && !typed) || document.querySelector('dialog[open]') !== null) return;
     const key = keys[event.key] ?? keys[event.key.toLowerCase()];
     if (key === undefined) return;
     // a button or a box that has the focus keeps the space bar
@@ -2581,7 +2759,7 @@ function returnFocus() {
   window.addEventListener('keydown', () => { byPointer = false; }, true);
   for (const name of ['click', 'change']) {
     window.addEventListener(name, () => {
-      if (byPointer && !element('help').open) element('map').focus({ preventScroll: true });
+      if (byPointer && document.querySelector('dialog[open]') === null) document.querySelector('canvas').focus({ preventScroll: true });
     });
   }
 }
@@ -2626,12 +2804,11 @@ function listenToControls(page) {
 
 // One pointer moves the map, or picks a robot if it does not move; two zoom it.
 class MapPointers {
-  constructor(page) {
+  constructor(page, canvas) {
     this.page = page;
-    this.canvas = element('map');
+    this.canvas = canvas;
     this.held = new Map();
     this.moved = false;
-    const { canvas } = this;
     canvas.addEventListener('wheel', (event) => this.wheel(event), { passive: false });
     canvas.addEventListener('pointerdown', (event) => this.down(event));
     canvas.addEventListener('pointermove', (event) => this.move(event));
@@ -2722,32 +2899,15 @@ function listenToCharts(page) {
 }
 
 function listen(page) {
-  listenToKeys(page);
+  listenToKeys(keysOf(page));
   listenToControls(page);
   listenToCharts(page);
   returnFocus();
-  page.pointers = new MapPointers(page);
+  page.pointers = new MapPointers(page, element('map'));
   window.addEventListener('resize', () => page.repaint());
   window.addEventListener('hashchange', (event) => page.address.read(new URL(event.newURL).hash));
   document.addEventListener('visibilitychange', () => { page.player.then = performance.now(); });
   matchMedia('(prefers-color-scheme: dark)').addEventListener('change', () => page.repaint());
 }
 
-// ---- the beginning
-
-function start() {
-  const textOf = (name) => element(name).textContent;
-  const map = mapOf(linesOf(textOf('map-rows')));
-  const replay = new Replay(map, tracesOf(textOf('traces')), verdictsOf(linesOf(textOf('verdicts'))));
-  const shown = new Page(map, replay);
-  listen(shown);
-  document.body.dataset.loaded = Math.round(performance.now());
-  shown.searchBound();
-  return shown;
-}
-
-const page = start();
-</script>
-</body>
-</html>
 "##;

@@ -25,7 +25,7 @@ pub enum ChapterVerdict {
 }
 
 /// The judge's verdict on a chapter.
-fn judge_chapter(
+pub(crate) fn judge_chapter(
     alloc: Global,
     grid: &Grid,
     chapter: &Chapter,

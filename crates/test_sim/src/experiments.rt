@@ -38,6 +38,8 @@ fn figures_of(
         manner: Manner::Plain,
         roomy: false,
         stations,
+        starts: None,
+        tasks: None,
     };
     let (tie, arrival) = (TieHook::fixed([0; 4]), ArrivalHook::fixed(0));
     let hooks = Hooks::alike(alloc, 3, tie, arrival, Farewell::fixed(0)).expect(rt, "hooks");

@@ -15,7 +15,7 @@ const SECOND: &str =
     r#"{"chapter":1,"entries":[["take",0,["go",0,5],["refused",4]],["tick",[1],[],[]]],"opening":{"clients":[[2,2,4,false]],"life":1000000,"queue":16,"robots":[[1,false,null,[],[0,0],[0,0]]],"tick":3},"version":2}"#;
 
 const LINES: &str =
-    "robots 1\nclients 1\nfloor_cells 3\nfirst_tick 0\nticks 4\norders 3\naccepted 2\nclosed 0\nwithdrawn 0\nrefused 1\nrefused_client-closed 0\nrefused_no-robot 0\nrefused_robot-shut 0\nrefused_no-cell 1\nrefused_blocked 0\nrefused_unreachable 0\nrefused_queue-full 0\nrefused_life-spent 0\nrefused_no-errand 0\nrefused_too-late 0\narrivals 2\nthroughput 0.500\nunfinished 0\nerrands 2\nservice_mean 2.500\nservice_median 2\nservice_p95 3\nservice_greatest 3\nwait_mean 1.500\nwait_median 1\nwait_p95 2\nwait_greatest 2\nsteps 3\ndistance 3\ndetour 1.000\nlongest_wait 1\nwait_limit none\nidle_mean 0.250\nmoves 3\nstands 0\nwindow_arrivals 2\n";
+    "robots 1\nclients 1\nfloor_cells 3\nfirst_tick 0\nticks 4\norders 3\naccepted 2\nclosed 0\nwithdrawn 0\nrefused 1\nrefused_client-closed 0\nrefused_no-robot 0\nrefused_robot-shut 0\nrefused_no-cell 1\nrefused_blocked 0\nrefused_unreachable 0\nrefused_queue-full 0\nrefused_life-spent 0\nrefused_no-errand 0\nrefused_too-late 0\narrivals 2\nthroughput 0.500\nunfinished 0\nerrands 2\nservice_mean 2.500\nservice_median 2\nservice_p90 3\nservice_p99 3\nservice_greatest 3\ntravel_mean 1.500\ntravel_median 1\ntravel_p90 2\ntravel_p99 2\ntravel_greatest 2\nsteps 3\ndistance 3\ndetour 1.000\ndelay 0.000\ndelay_ratio 1.000\nlongest_wait 1\nwait_limit none\nidle_mean 0.250\nunder_way 0.750\nmoves 3\nstands 0\nwindow_arrivals 2\n";
 
 const ERRANDS: &str =
     "client,number,robot,cell,accepted,begun,arrived,from,steps,distance\n0,1,0,2,0,0,2,0,2,2\n0,2,0,1,0,2,3,2,1,1\n";
@@ -29,11 +29,19 @@ const OPEN: &str =
     r#"{"chapter":1,"entries":[["take",0,["go",0,1],["accepted",2]],["take",0,["go",0,0],["accepted",3]],["take",0,["withdraw",2],["withdrawn"]],["tick",[1],[],[]]],"opening":{"clients":[[1,1,1,false]],"life":1000000,"queue":16,"robots":[[0,false,0,[[0,1,2]],[0,0],[0,0]]],"tick":3},"version":2}"#;
 
 const LEFT_LINES: &str =
-    "robots 1\nclients 1\nfloor_cells 3\nfirst_tick 3\nticks 1\norders 3\naccepted 2\nclosed 0\nwithdrawn 1\nrefused 0\nrefused_client-closed 0\nrefused_no-robot 0\nrefused_robot-shut 0\nrefused_no-cell 0\nrefused_blocked 0\nrefused_unreachable 0\nrefused_queue-full 0\nrefused_life-spent 0\nrefused_no-errand 0\nrefused_too-late 0\narrivals 0\nthroughput 0.000\nunfinished 2\nerrands 0\nservice_mean none\nservice_median none\nservice_p95 none\nservice_greatest none\nwait_mean none\nwait_median none\nwait_p95 none\nwait_greatest none\nsteps 0\ndistance 0\ndetour none\nlongest_wait 0\nwait_limit none\nidle_mean 0.000\nmoves 1\nstands 0\nwindow_arrivals 0\n";
+    "robots 1\nclients 1\nfloor_cells 3\nfirst_tick 3\nticks 1\norders 3\naccepted 2\nclosed 0\nwithdrawn 1\nrefused 0\nrefused_client-closed 0\nrefused_no-robot 0\nrefused_robot-shut 0\nrefused_no-cell 0\nrefused_blocked 0\nrefused_unreachable 0\nrefused_queue-full 0\nrefused_life-spent 0\nrefused_no-errand 0\nrefused_too-late 0\narrivals 0\nthroughput 0.000\nunfinished 2\nerrands 0\nservice_mean none\nservice_median none\nservice_p90 none\nservice_p99 none\nservice_greatest none\ntravel_mean none\ntravel_median none\ntravel_p90 none\ntravel_p99 none\ntravel_greatest none\nsteps 0\ndistance 0\ndetour none\ndelay none\ndelay_ratio none\nlongest_wait 0\nwait_limit none\nidle_mean 0.000\nunder_way 1.000\nmoves 1\nstands 0\nwindow_arrivals 0\n";
 
-/// Only the third errand was accepted in the run.
-const LEFT_ERRANDS: &str =
-    "client,number,robot,cell,accepted,begun,arrived,from,steps,distance\n0,3,0,0,3,,,,,\n";
+/// The first errand was accepted before the run.
+const LEFT_ERRANDS: &str = "client,number,robot,cell,accepted\n0,1,0,2,\n0,3,0,0,3\n";
+
+/// What the errands of the first run add up to: of services, of travels, of steps and of distances.
+const ROBOTS: &str = "robot,errands,unfinished,service,travel,steps,distance\n0,2,0,5,3,3,3\n";
+
+const CLIENTS: &str = "client,errands,unfinished,service,travel,steps,distance\n0,2,0,5,3,3,3\n";
+
+/// The figures of ticks 3 and 4.
+const LATER: &str =
+    "ticks 2\narrivals 1\nthroughput 0.500\nerrands 1\nservice_mean 3.000\nservice_median 3\nservice_p90 3\nservice_p99 3\nservice_greatest 3\ndistance 1\ndelay 0.000\ndelay_ratio 1.000\nlongest_wait 0\n";
 
 /// A chapter that leaves an errand: the robot made one of the two steps to its cell.
 const LEAVES: &str =
@@ -85,6 +93,9 @@ fn figures_of_two_chapters(rt: HostRuntime) {
     assert!(rt; printed(alloc, StatsForm::Text, &texts).as_str() == LINES);
     assert!(rt; printed(alloc, StatsForm::Errands, &texts).as_str() == ERRANDS);
     assert!(rt; printed(alloc, StatsForm::Ticks, &texts).as_str() == TICKS);
+    assert!(rt; printed(alloc, StatsForm::Robots, &texts).as_str() == ROBOTS);
+    assert!(rt; printed(alloc, StatsForm::Clients, &texts).as_str() == CLIENTS);
+    assert!(rt; printed(alloc, StatsForm::TextAfter(2), &texts).as_str() == LATER);
 }
 
 #[test]
@@ -123,5 +134,5 @@ fn unfinished_errands(rt: HostRuntime) {
     let alloc = rt.alloc();
     let texts = one(alloc, OPEN).expect(&rt, "memory");
     assert!(rt; printed(alloc, StatsForm::Text, &texts).as_str() == LEFT_LINES);
-    assert!(rt; printed(alloc, StatsForm::Errands, &texts).as_str() == LEFT_ERRANDS);
+    assert!(rt; printed(alloc, StatsForm::Unfinished, &texts).as_str() == LEFT_ERRANDS);
 }

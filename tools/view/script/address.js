@@ -1,12 +1,12 @@
 // ---- the address: what is shown, as words after `#`
 
-const SHOWN = ['heat', 'goals', 'lines', 'roomy'];
+const SHOWN = ['heat', 'goals', 'lines', 'roomy', 'turns'];
 // what is drawn if nothing is said
 const SHOWN_FIRST = ['goals', 'lines'];
 const ADDRESS_EVERY = 300;
 
 // `t=140` is the tick at which the clock is 140, `robot=3` the picked robot, `zoom=2.5,10,7` shows the map 2.5 times as
-// large with column 10, row 7 in the middle, and `heat=1&goals=0&lines=0&roomy=1` says what is drawn. `heat=stood-100` is the
+// large with column 10, row 7 in the middle, and `heat=1&goals=0&lines=0&roomy=1&turns=1` says what is drawn. `heat=stood-100` is the
 // heat of cells on which robots stood in the last 100 ticks.
 class Address {
   constructor(page) {

@@ -10,10 +10,10 @@ const SMALL_CELL = 20;
 const CROWDED = 0.24;
 const CROWDED_SIZE = 0.6;
 
-class MapView extends MapGround {
+class MapView extends MapTurns {
   constructor(canvas, replay) {
     super(canvas, replay);
-    this.shows = { heat: false, goals: true, lines: true, roomy: false };
+    this.shows = { heat: false, goals: true, lines: true, roomy: false, turns: false };
     this.picked = null;
     this.follows = false;
     this.pulse = 0;
@@ -103,6 +103,7 @@ class MapView extends MapGround {
     if (this.shows.lines) this.drawLines();
     this.drawRobots(fraction);
     if (this.shows.goals) this.drawGoals();
+    if (this.shows.turns) this.drawTurns();
     if (picked !== null) this.drawQueue(picked);
     this.drawFaults();
   }

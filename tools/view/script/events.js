@@ -97,7 +97,7 @@ class RobotTable {
       name.append(button);
       row.append(name);
       body.append(row);
-      const cells = Array.from({ length: 5 }, () => textCell(row));
+      const cells = Array.from({ length: 6 }, () => textCell(row));
       return { row, dot, button, cells, shown: [] };
     });
   }
@@ -116,6 +116,7 @@ class RobotTable {
   // Only what changed is written.
   draw(colours, picked) {
     const { replay } = this;
+    const { turns } = replay.turnsNow();
     const { cells, queues, shut, frame } = replay.state;
     for (let robot = 0; robot < replay.robots; robot += 1) {
       const { row, dot, button, cells: places, shown } = this.rows[robot];
@@ -123,7 +124,7 @@ class RobotTable {
       const idle = queue.length === 0;
       const wait = replay.waitOf(robot);
       const goal = idle ? '\u2013' : queue[0].cell;
-      const texts = [cells[robot], goal, queue.length, wait ?? '\u2013', stateText(shut[robot], idle)];
+      const texts = [cells[robot], goal, queue.length, wait ?? '\u2013', turns[robot], stateText(shut[robot], idle)];
       texts.forEach((text, place) => {
         if (shown[place] === text) return;
         shown[place] = text;
@@ -131,13 +132,13 @@ class RobotTable {
       });
       const colour = idle ? colours.idle : colours.robots[robot].fill;
       const marks = [colour, replay.eldest[frame] === robot, picked === robot];
-      if (shown[5] !== marks[0]) dot.style.background = marks[0];
-      if (shown[6] !== marks[1]) row.classList.toggle('eldest', marks[1]);
-      if (shown[7] !== marks[2]) {
+      if (shown[6] !== marks[0]) dot.style.background = marks[0];
+      if (shown[7] !== marks[1]) row.classList.toggle('eldest', marks[1]);
+      if (shown[8] !== marks[2]) {
         row.classList.toggle('picked', marks[2]);
         button.setAttribute('aria-pressed', marks[2]);
       }
-      [shown[5], shown[6], shown[7]] = marks;
+      [shown[6], shown[7], shown[8]] = marks;
     }
   }
 }

@@ -133,3 +133,24 @@ function conflictsText(count) {
   const listed = count > MOST_CONFLICTS ? `the first ${MOST_CONFLICTS}` : 'each';
   return `${count} conflict${count === 1 ? '' : 's'} in all: ${listed} among the events, with the tick.`;
 }
+
+const MOST_BANNERS = 5;
+
+// The lines of the banner, with a jump to each fault.
+function bannerLines(replay, jump) {
+  const { faults, conflicts } = replay;
+  const lines = faults.slice(0, MOST_BANNERS).map((fault) => {
+    const line = document.createElement('p');
+    const button = document.createElement('button');
+    button.type = 'button';
+    button.className = 'jump';
+    button.textContent = `Show tick ${replay.clockAt(fault.frame)}`;
+    button.addEventListener('click', () => jump(fault.frame));
+    const of = replay.chapters.length > 1 ? `Chapter ${fault.chapter} is ` : 'This trace is ';
+    line.append(`${of}${faultText(fault)}. `, button);
+    return line;
+  });
+  if (faults.length > MOST_BANNERS) lines.push(`${faults.length - MOST_BANNERS} more chapters are illegal.`);
+  if (conflicts > 0) lines.push(conflictsText(conflicts));
+  return lines;
+}

@@ -1,62 +1,27 @@
-// ---- what lies under the robots: letters, heat, bridges and cells that are not roomy, grid
+// ---- what lies under the robots: heat, bridges and cells that are not roomy
 
 const ROOMY_STRENGTH = 0.3;
 // a bridge's line, in cells
 const BRIDGE_WIDTH = 0.14;
 
-class MapGround extends MapPlace {
+class MapGround extends MapFloor {
   constructor(canvas, replay) {
     super(canvas, replay.map);
-    this.pen = canvas.getContext('2d');
     this.replay = replay;
     this.heat = new Heat(replay);
   }
 
-  // A canvas of one pixel a cell, which is drawn larger.
-  cellCanvas() {
-    const canvas = document.createElement('canvas');
-    canvas.width = this.map.width;
-    canvas.height = this.map.height;
-    return canvas;
-  }
-
   paintLetters(colours) {
-    const { height, width, letters, floor } = this.map;
-    this.colours = colours;
-    this.ground = this.cellCanvas();
+    super.paintLetters(colours);
     this.heatCanvas = this.cellCanvas();
-    this.heatPixels = this.heatCanvas.getContext('2d').createImageData(width, height);
+    this.heatPixels = this.heatCanvas.getContext('2d').createImageData(this.map.width, this.map.height);
     this.shades = shadesOf(colours.heat);
     this.paintedHeat = undefined;
-    const pen = this.ground.getContext('2d');
-    pen.fillStyle = colours.floor;
-    pen.fillRect(0, 0, width, height);
-    for (let cell = 0; cell < floor.length; cell += 1) {
-      if (floor[cell]) continue;
-      pen.fillStyle = letters[cell] === 'T' || letters[cell] === 'W' ? colours.shelf : colours.wall;
-      pen.fillRect(cell % width, Math.floor(cell / width), 1, 1);
-    }
   }
 
-  drawCells(canvas) {
-    const { view, map } = this;
-    this.pen.drawImage(canvas, view.left, view.top, map.width * view.scale, map.height * view.scale);
-  }
-
-  drawGround(numbered) {
-    const { pen, view, map, colours, canvas } = this;
-    pen.setTransform(1, 0, 0, 1, 0, 0);
-    pen.globalAlpha = 1;
-    pen.fillStyle = colours.card;
-    pen.fillRect(0, 0, canvas.width, canvas.height);
-    pen.imageSmoothingEnabled = false;
-    this.drawCells(this.ground);
+  drawOnFloor() {
     if (this.shows.heat) this.drawHeat();
     if (this.shows.roomy) this.drawRoomy();
-    pen.strokeStyle = colours.line;
-    pen.lineWidth = 1;
-    pen.strokeRect(view.left, view.top, map.width * view.scale, map.height * view.scale);
-    if (numbered) this.drawGrid();
   }
 
   // Once, when it is first asked for.
@@ -116,24 +81,5 @@ class MapGround extends MapPlace {
     heat.changed = [];
     this.mostHeat = heat.most;
     this.heatCanvas.getContext('2d').putImageData(this.heatPixels, 0, 0);
-  }
-
-  drawGrid() {
-    const { pen, view, colours } = this;
-    const { height, width } = this.map;
-    pen.strokeStyle = colours.grid;
-    pen.lineWidth = 1;
-    pen.beginPath();
-    for (let column = 0; column <= width; column += 1) {
-      const x = Math.round(view.left + column * view.scale) + 0.5;
-      pen.moveTo(x, view.top);
-      pen.lineTo(x, view.top + height * view.scale);
-    }
-    for (let row = 0; row <= height; row += 1) {
-      const y = Math.round(view.top + row * view.scale) + 0.5;
-      pen.moveTo(view.left, y);
-      pen.lineTo(view.left + width * view.scale, y);
-    }
-    pen.stroke();
   }
 }

@@ -40,6 +40,7 @@ function keysOf(page) {
     g: toggle('goals'),
     l: toggle('lines'),
     r: toggle('roomy'),
+    p: toggle('turns'),
     j: () => {
       page.chooseHeat('stood', 100);
       page.draw();
@@ -49,12 +50,11 @@ function keysOf(page) {
   };
 }
 
-function listenToKeys(page) {
-  const keys = keysOf(page);
+function listenToKeys(keys) {
   window.addEventListener('keydown', (event) => {
     // on many keyboards [ and ] are typed with AltGr or Option
     const typed = event.key === '[' || event.key === ']';
-    if (event.metaKey || ((event.ctrlKey || event.altKey) && !typed) || element('help').open) return;
+    if (event.metaKey || ((event.ctrlKey || event.altKey) && !typed) || document.querySelector('dialog[open]') !== null) return;
     const key = keys[event.key] ?? keys[event.key.toLowerCase()];
     if (key === undefined) return;
     // a button or a box that has the focus keeps the space bar
@@ -74,7 +74,7 @@ function returnFocus() {
   window.addEventListener('keydown', () => { byPointer = false; }, true);
   for (const name of ['click', 'change']) {
     window.addEventListener(name, () => {
-      if (byPointer && !element('help').open) element('map').focus({ preventScroll: true });
+      if (byPointer && document.querySelector('dialog[open]') === null) document.querySelector('canvas').focus({ preventScroll: true });
     });
   }
 }
@@ -119,12 +119,11 @@ function listenToControls(page) {
 
 // One pointer moves the map, or picks a robot if it does not move; two zoom it.
 class MapPointers {
-  constructor(page) {
+  constructor(page, canvas) {
     this.page = page;
-    this.canvas = element('map');
+    this.canvas = canvas;
     this.held = new Map();
     this.moved = false;
-    const { canvas } = this;
     canvas.addEventListener('wheel', (event) => this.wheel(event), { passive: false });
     canvas.addEventListener('pointerdown', (event) => this.down(event));
     canvas.addEventListener('pointermove', (event) => this.move(event));
@@ -215,11 +214,11 @@ function listenToCharts(page) {
 }
 
 function listen(page) {
-  listenToKeys(page);
+  listenToKeys(keysOf(page));
   listenToControls(page);
   listenToCharts(page);
   returnFocus();
-  page.pointers = new MapPointers(page);
+  page.pointers = new MapPointers(page, element('map'));
   window.addEventListener('resize', () => page.repaint());
   window.addEventListener('hashchange', (event) => page.address.read(new URL(event.newURL).hash));
   document.addEventListener('visibilitychange', () => { page.player.then = performance.now(); });

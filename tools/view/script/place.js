@@ -14,17 +14,26 @@ class MapPlace {
     // the zoom, 1 where the whole map is shown, and the place of the map that is in the middle, in cells
     this.zoom = 1;
     this.middle = { x: map.width / 2, y: map.height / 2 };
+    this.leastHigh = LEAST_HIGH;
   }
 
-  // The map is as high as it can be with its slider in the window; in one column it leaves room for what is told below it. Zoom
-  // and middle stay.
+  // How far down on the page the map begins.
+  above() {
+    return this.canvas.getBoundingClientRect().top + window.scrollY;
+  }
+
+  // How high the map may be: with its slider in the window; in one column it leaves room for what is told below it.
+  room() {
+    const isOneColumn = matchMedia('(max-width: 900px)').matches;
+    const below = isOneColumn ? window.innerHeight * 0.25 : element('time').offsetHeight + BELOW;
+    return Math.max(LEAST_HIGH, window.innerHeight - this.above() - below);
+  }
+
+  // The map is as high as it can be. Zoom and middle stay.
   resize() {
     const { height, width } = this.map;
     const room = this.canvas.clientWidth;
-    const above = this.canvas.getBoundingClientRect().top + window.scrollY;
-    const isOneColumn = matchMedia('(max-width: 900px)').matches;
-    const below = isOneColumn ? window.innerHeight * 0.25 : element('time').offsetHeight + BELOW;
-    const high = Math.max(LEAST_HIGH, Math.min(room * height / width, window.innerHeight - above - below));
+    const high = Math.max(this.leastHigh, Math.min(room * height / width, this.room()));
     this.ratio = window.devicePixelRatio || 1;
     this.canvas.style.height = `${high}px`;
     this.canvas.width = Math.round(room * this.ratio);

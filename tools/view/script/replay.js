@@ -202,6 +202,21 @@ class Replay {
     while (this.state.frame > frame) this.back();
   }
 
+  // Whose turn it is in the next tick; worked out once a frame.
+  turnsNow() {
+    if (this.stepTurns?.frame !== this.state.frame) this.stepTurns = stepTurns(this);
+    return this.stepTurns;
+  }
+
+  // The robots' cells after the next tick.
+  cellsAfter() {
+    const { frame, cells } = this.state;
+    const next = cells.slice();
+    if (frame === this.last) return next;
+    for (let at = this.moveStart[frame + 1]; at < this.moveStart[frame + 2]; at += 1) next[this.moveRobot[at]] += this.moveDelta[at];
+    return next;
+  }
+
   waitOf(robot) {
     const since = this.state.since[robot];
     return since === since ? this.state.frame - since : null;

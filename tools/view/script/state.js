@@ -1,6 +1,5 @@
 // ---- what the page shows
 
-const MOST_BANNERS = 5;
 const HEAT_TEXTS = { came: 'a robot came to the cell', stood: 'a robot with an errand stood on the cell' };
 
 function element(name) {
@@ -53,20 +52,7 @@ class Page {
     dataset.faultRobots = faults.map((fault) => fault.robots.join(',')).join(' ');
     element('judged').textContent = faults.length === 0 ? 'judged legal' : '';
     element('verdict').hidden = faults.length === 0;
-    const lines = faults.slice(0, MOST_BANNERS).map((fault) => {
-      const line = document.createElement('p');
-      const button = document.createElement('button');
-      button.type = 'button';
-      button.className = 'jump';
-      button.textContent = `Show tick ${this.replay.clockAt(fault.frame)}`;
-      button.addEventListener('click', () => this.player.jump(fault.frame));
-      const of = this.replay.chapters.length > 1 ? `Chapter ${fault.chapter} is ` : 'This trace is ';
-      line.append(`${of}${faultText(fault)}. `, button);
-      return line;
-    });
-    if (faults.length > MOST_BANNERS) lines.push(`${faults.length - MOST_BANNERS} more chapters are illegal.`);
-    if (conflicts > 0) lines.push(conflictsText(conflicts));
-    element('verdict').replaceChildren(...lines);
+    element('verdict').replaceChildren(...bannerLines(this.replay, (frame) => this.player.jump(frame)));
     showMarks(element('marks'), this.replay);
   }
 
@@ -141,7 +127,8 @@ class Page {
       this.table.draw(this.colours, this.view.picked);
       showEntries(element('entries'), replay);
       this.events.draw();
-      element('picked').textContent = this.view.picked === null ? '' : robotText(replay, this.view.picked);
+      const { picked } = this.view;
+      element('picked').textContent = picked === null ? '' : `${robotText(replay, picked)} ${turnText(replay.turnsNow(), picked)}`;
     }
     this.publish();
     this.address.follow();
@@ -171,6 +158,9 @@ class Page {
     if (!this.player.playing) {
       dataset.waits = queues.map((_, robot) => replay.waitOf(robot) ?? '-').join(' ');
       dataset.moves = replay.moveStart[frame + 1];
+      const { turns, pushedBy } = replay.turnsNow();
+      dataset.turns = turns.join(' ');
+      dataset.pushes = pushedBy === null ? 'unknown' : pushedBy.join(' ');
     }
   }
 
@@ -215,6 +205,7 @@ class Page {
     element(`show-${name}`).checked = on;
     if (name === 'heat') element('heat-scale').hidden = !on;
     if (name === 'roomy') this.tellRoomy(on);
+    if (name === 'turns') for (const item of document.querySelectorAll('.of-turns')) item.hidden = !on;
   }
 
   show(name, on) {

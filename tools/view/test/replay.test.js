@@ -10,7 +10,7 @@ const test = require('node:test');
 const vm = require('node:vm');
 
 const PARTS = [
-  'read', 'graph', 'roomy', 'fault', 'changes', 'replay', 'bound', 'colours', 'heat', 'charts', 'events', 'list', 'marks',
+  'read', 'graph', 'roomy', 'fault', 'changes', 'replay', 'turns', 'bound', 'colours', 'heat', 'charts', 'events', 'list', 'marks',
 ];
 const NAMES = [
   'Replay', 'Distances', 'mapOf', 'verdictsOf', 'traceOf', 'tracesOf', 'hasBridge', 'greatestDistance', 'findBound',

@@ -18,6 +18,7 @@ use crate::words::program::{fleet_words, program};
 use crate::words::sim::{SimJob, sim_in};
 use crate::words::stats::{Stats, stats_in};
 use crate::words::talk::{Talk, talk_in};
+use crate::words::vehicles::{VehiclesJob, vehicles_in};
 use crate::words::view::{View, view_in};
 use clap::ArgMatches;
 use command_words::{WordFault, matches_for};
@@ -38,6 +39,7 @@ pub enum Job {
     Execute(Execute),
     Sim(SimJob),
     Change(ChangeJob),
+    Vehicles(VehiclesJob),
 }
 
 /// The job of the words that `clap` accepted.
@@ -70,6 +72,8 @@ fn job_from(alloc: Global, matches: &ArgMatches<'_>) -> Result<Job, AllocError>
                 Ok(Job::Sim(sim_in(alloc, inner)?))
             } else if name == "change" {
                 Ok(Job::Change(change_in(alloc, inner)?))
+            } else if name == "vehicles" {
+                Ok(Job::Vehicles(vehicles_in(alloc, inner)?))
             } else {
                 // `clap` takes no other word, so this never runs
                 Err(AllocError)

@@ -2,7 +2,7 @@
 
 ghost use Rattle.std.specs.Prelude.{◌≡◌, map};
 ghost use Rattle.command_words.specs.Table.{program_app, word_app};
-ghost use Rattle.fleet_lib.specs.Command.{change_app, check_app, convert_app, execute_app, explain_app, fleet_app, judge_app, live_app, map_app, sim_app, stats_app, talk_app, view_app, word_apps};
+ghost use Rattle.fleet_lib.specs.Command.{change_app, check_app, convert_app, execute_app, explain_app, fleet_app, judge_app, live_app, map_app, sim_app, stats_app, talk_app, vehicles_app, view_app, word_apps};
 
 use crate::words::change::CHANGE;
 use crate::words::check::CHECK;
@@ -15,6 +15,7 @@ use crate::words::map::MAP_WORD;
 use crate::words::sim::SIM;
 use crate::words::stats::STATS;
 use crate::words::talk::TALK;
+use crate::words::vehicles::VEHICLES;
 use crate::words::view::VIEW;
 use command_words::{Program, Word};
 
@@ -93,9 +94,15 @@ fn change_word() -> Word<'static>
     CHANGE
 }
 
+fn vehicles_word() -> Word<'static>
+    ensures { word_app result ≡ vehicles_app }
+{
+    VEHICLES
+}
+
 /// The words of the program. Each comes from a function of its own, since a proof has a constant at each step of the function
 /// that names it: the table of all is too long for one.
-pub(crate) fn fleet_words() -> [Word<'static>; 12]
+pub(crate) fn fleet_words() -> [Word<'static>; 13]
     ensures { map word_app result ≡ word_apps }
 {
     [
@@ -111,6 +118,7 @@ pub(crate) fn fleet_words() -> [Word<'static>; 12]
         execute_word(),
         sim_word(),
         change_word(),
+        vehicles_word(),
     ]
 }
 

@@ -23,10 +23,16 @@ pub struct SimJob {
     pub seeds: Option<String>,
     /// A file with a list of cells.
     pub cells: Option<String>,
+    /// A file with a scenario.
+    pub scenario: Option<String>,
+    /// A file with a list of tasks.
+    pub tasks: Option<String>,
     /// Whether errands go to roomy cells only.
     pub roomy: bool,
     /// How ticks are planned.
     pub planner: Option<String>,
+    /// How ties are decided.
+    pub ties: Option<String>,
     /// The folder for the trace of a run.
     pub traces: Option<String>,
     /// Whether times are told.
@@ -35,7 +41,7 @@ pub struct SimJob {
     pub json: bool,
 }
 
-/// `sim --robots LIST --ticks N [--warm-up N] [--seeds N] [--cells FILE] [--roomy] [--planner NAME] [--traces DIR] [--times] [--csv] [--json] MAP`.
+/// `sim --robots LIST --ticks N [--warm-up N] [--seeds N] [--cells FILE | --scen FILE | --tasks FILE] [--roomy] [--planner NAME] [--ties NAME] [--traces DIR] [--times] [--csv] [--json] MAP`.
 pub(crate) const SIM: Word<'static> = Word {
     name: "sim",
     about: "Runs lifelong experiments on a map, and prints a table of them",
@@ -67,11 +73,26 @@ pub(crate) const SIM: Word<'static> = Word {
             help: "Send robots to the cells of this file only",
         },
         Argument {
+            name: "scen",
+            kind: Kind::Value("FILE"),
+            help: "Take starts and errands from this MovingAI scenario",
+        },
+        Argument {
+            name: "tasks",
+            kind: Kind::Value("FILE"),
+            help: "Take errands from this task list of the League of Robot Runners",
+        },
+        Argument {
             name: "roomy",
             kind: Kind::Flag,
             help: "Send robots to roomy cells only",
         },
         PLANNER,
+        Argument {
+            name: "ties",
+            kind: Kind::Value("NAME"),
+            help: "How ties are decided: plain or random; plain if not given",
+        },
         Argument {
             name: "traces",
             kind: Kind::Value("DIR"),
@@ -106,7 +127,10 @@ pub(crate) fn sim_in(alloc: Global, matches: &ArgMatches<'_>) -> Result<SimJob, 
     let warm_up = some_word_for(alloc, matches, "warm-up")?;
     let seeds = some_word_for(alloc, matches, "seeds")?;
     let cells = some_word_for(alloc, matches, "cells")?;
+    let scenario = some_word_for(alloc, matches, "scen")?;
+    let tasks = some_word_for(alloc, matches, "tasks")?;
     let planner = some_word_for(alloc, matches, "planner")?;
+    let ties = some_word_for(alloc, matches, "ties")?;
     let traces = some_word_for(alloc, matches, "traces")?;
     Ok(SimJob {
         map,
@@ -115,8 +139,11 @@ pub(crate) fn sim_in(alloc: Global, matches: &ArgMatches<'_>) -> Result<SimJob, 
         warm_up,
         seeds,
         cells,
+        scenario,
+        tasks,
         roomy: has_flag(matches, "roomy"),
         planner,
+        ties,
         traces,
         times: has_flag(matches, "times"),
         csv: has_flag(matches, "csv"),

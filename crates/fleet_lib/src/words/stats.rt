@@ -6,7 +6,7 @@ ghost use Rattle.fleet_lib.specs.Asked.{IsStats, figures_by, figures_in, table_n
 
 use crate::words::arguments::MAP;
 use clap::ArgMatches;
-use command_words::{Argument, Kind, Word, has_flag, word_for, words_for};
+use command_words::{Argument, Kind, Word, has_flag, some_word_for, word_for, words_for};
 use std::alloc::{AllocError, Global};
 
 /// How figures are printed.
@@ -16,8 +16,14 @@ pub enum Figures {
     Lines,
     /// As a JSON object.
     Json,
-    /// As a table of the errands.
+    /// As a table of the errands that were done.
     Errands,
+    /// As a table of the errands that are left.
+    Unfinished,
+    /// As a table of the robots.
+    Robots,
+    /// As a table of the clients.
+    Clients,
     /// As a table of the ticks.
     Ticks,
     /// As a table of the cells.
@@ -32,12 +38,14 @@ pub struct Stats {
     pub traces: Vec<String>,
     /// `None` if the word is not the name of a table, or JSON is asked for too.
     pub figures: Option<Figures>,
+    /// The number of ticks that are left out.
+    pub warm_up: Option<String>,
 }
 
-/// `stats [--json] [--csv TABLE] MAP TRACE..`.
+/// `stats [--json] [--csv TABLE] [--warm-up N] MAP TRACE..`.
 pub(crate) const STATS: Word<'static> = Word {
     name: "stats",
-    about: "Prints figures of traces: throughput, service times, waits, detours",
+    about: "Prints figures of traces: throughput, service times, travels, delays",
     example: "Example: fleet stats --csv errands ring.map two_robots.trace > errands.csv",
     arguments: &[
         Argument {
@@ -48,7 +56,12 @@ pub(crate) const STATS: Word<'static> = Word {
         Argument {
             name: "csv",
             kind: Kind::Value("TABLE"),
-            help: "Print a table of errands, ticks or cells",
+            help: "Print a table: errands, unfinished, robots, clients, ticks or cells",
+        },
+        Argument {
+            name: "warm-up",
+            kind: Kind::Value("N"),
+            help: "Leave out the first N ticks",
         },
         MAP,
         Argument {
@@ -65,6 +78,12 @@ fn table_named(name: &str) -> Option<Figures>
 {
     if name == "errands" {
         Some(Figures::Errands)
+    } else if name == "unfinished" {
+        Some(Figures::Unfinished)
+    } else if name == "robots" {
+        Some(Figures::Robots)
+    } else if name == "clients" {
+        Some(Figures::Clients)
     } else if name == "ticks" {
         Some(Figures::Ticks)
     } else if name == "cells" {
@@ -99,9 +118,11 @@ pub(crate) fn stats_in(alloc: Global, matches: &ArgMatches<'_>) -> Result<Stats,
     let figures = figures_in(matches);
     let map = word_for(alloc, matches, "MAP")?;
     let traces = words_for(alloc, matches, "TRACE")?;
+    let warm_up = some_word_for(alloc, matches, "warm-up")?;
     Ok(Stats {
         map,
         traces,
         figures,
+        warm_up,
     })
 }

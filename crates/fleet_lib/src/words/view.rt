@@ -49,7 +49,7 @@ pub(crate) const VIEW: Word<'static> = Word {
         Argument {
             name: "TRACE",
             kind: Kind::Files,
-            help: "Traces of `errands`, `talk` or `live`, chapters in order; or a plan",
+            help: "Traces, chapters in order; a plan or a log of `execute`; or two of these",
         },
     ],
 };

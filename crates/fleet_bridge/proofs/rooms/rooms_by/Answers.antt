@@ -8,8 +8,8 @@ use Rattle.fleet_bridge.proofs.rooms.rooms_by.Goals as goal
 pub is_walked-requires : goal.is_walked-requires
 is_walked-requires g c = c.in_ok-tree.ensures
 
-pub are_housed-requires-then-is_walked : goal.are_housed-requires-then-is_walked
-are_housed-requires-then-is_walked g c = (c.is_walked.ensures c.if-is_walked.true).spanning
+pub are_housed-requires : goal.are_housed-requires
+are_housed-requires g c = (c.is_walked.ensures c.if-is_walked.true).spanning
 
 pub returns-then-are_housed : goal.returns-then-are_housed
 returns-then-are_housed g c =

@@ -1,4 +1,4 @@
--- The chapter that goes on is sound.
+-- The chapter that goes on is sound, and that of the world.
 use Rattle.fleet_talk.proofs.Keeping.{sound-is}
 use Rattle.fleet_talk.proofs.writing.back_up.Goals as goal
 

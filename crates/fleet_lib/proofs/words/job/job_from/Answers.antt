@@ -84,3 +84,9 @@ returns-in_ok-change_in-in-Some c =
     let rows = rows_of (found_of c.in-Some.inner.now) in
     let name_is : c.in-Some.name.now ≡ codes "change" = (bytes_eq-Decides c.in-Some.name.now (codes "change")).0 (sym c.eq-else-eq-11.ensures ∙ c.if-eq-12.true) in
     (rows, named _ _ _ c.in-Some.name.now rows c.in-Some.ensures.name c.in-Some.ensures.rows ∙ ap (λ (n : Text). Some (n, rows)) name_is, c.in_ok-change_in-in-Some.ensures)
+
+pub returns-in_ok-vehicles_in-in-Some : goal.returns-in_ok-vehicles_in-in-Some
+returns-in_ok-vehicles_in-in-Some c =
+    let rows = rows_of (found_of c.in-Some.inner.now) in
+    let name_is : c.in-Some.name.now ≡ codes "vehicles" = (bytes_eq-Decides c.in-Some.name.now (codes "vehicles")).0 (sym c.eq-else-eq-12.ensures ∙ c.if-eq-13.true) in
+    (rows, named _ _ _ c.in-Some.name.now rows c.in-Some.ensures.name c.in-Some.ensures.rows ∙ ap (λ (n : Text). Some (n, rows)) name_is, c.in_ok-vehicles_in-in-Some.ensures)
