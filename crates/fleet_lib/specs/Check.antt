@@ -11,7 +11,7 @@ use Rattle.fleet_plans.specs.declared.judging.PlanFault.{PlanFault}
 use Rattle.fleet_plans.specs.declared.goals.GoalFault.{GoalFault}
 use Rattle.fleet_plans.specs.declared.goals.GoalFault.TheVariants.{NoGoals, OffStart, OffGoal}
 use Rattle.fleet_plans.specs.declared.misspelt.Misspelt.{Misspelt}
-use Rattle.fleet_plans.specs.Answer.{IsFormAnswer, fault_text, report_text}
+use Rattle.fleet_plans.specs.Answer.{IsFormAnswer, fault_text, is_invalid, report_text}
 use Rattle.fleet_plans.specs.Claims.{head_text}
 use Rattle.fleet_plans.specs.Misspelt.{misspelt_of, misspelt_text}
 use Rattle.fleet_plans.specs.Form.{form_of}
