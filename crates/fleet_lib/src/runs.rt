@@ -1,10 +1,9 @@
 //! Plans with many robots, and two runs, on a page.
 
-ghost use Rattle.std.specs.Prelude.{◌≡◌, ◌≤◌, ◌∷◌, [], true, length, vec_len, IfOk};
+ghost use Rattle.std.specs.Prelude.{◌≡◌, ◌≤◌, ◌||◌, true, length, vec_len, IfOk};
 ghost use Rattle.fleet_view.specs.Logs.{is_log};
-ghost use Rattle.fleet_view.specs.View.{IsUnshown};
 ghost use Rattle.fleet_lib.specs.Check.{good};
-ghost use Rattle.fleet_lib.specs.Runs.{IsLogSaid, IsManySaid, IsPageSaid, IsPairSaid, IsTracesSaid, IsTwoSaid, is_chapter, is_run, pair_refused};
+ghost use Rattle.fleet_lib.specs.Runs.{IsLogSaid, IsManySaid, IsPageSaid, IsPairSaid, IsTracesSaid, IsTwoSaid, is_run, pair_refused};
 ghost use Rattle.fleet_lib.specs.Said.{said_of};
 
 use crate::plan_trace::plan_refused;
@@ -96,7 +95,10 @@ fn answer_traces(
     match view_page(alloc, map, &texts) {
         Ok(page) => Ok(shown(alloc, page)),
         Err(ViewFault::Chapter(_)) => answer_pair(alloc, map, &texts[0], &texts[1]),
-        Err(fault) => faulty(alloc, fault),
+        Err(ViewFault::Map(fault)) => faulty(alloc, ViewFault::Map(fault)),
+        Err(ViewFault::Trace(fault)) => faulty(alloc, ViewFault::Trace(fault)),
+        Err(ViewFault::OffMap(number)) => faulty(alloc, ViewFault::OffMap(number)),
+        Err(ViewFault::NoMemory) => faulty(alloc, ViewFault::NoMemory),
     }
 }
 
@@ -105,6 +107,13 @@ fn is_run(text: &[u8]) -> bool
     ensures { result ≡ is_run text.now }
 {
     is_plan(text) || is_log(text)
+}
+
+/// Whether one of two texts is no trace.
+fn has_run(one: &[u8], other: &[u8]) -> bool
+    ensures { result ≡ is_run one.now || is_run other.now }
+{
+    is_run(one) || is_run(other)
 }
 
 /// The answer to a map and two texts that are to be shown on one page. Two traces of which the second continues the first are
@@ -119,7 +128,7 @@ pub fn answer_two(
     requires other { vec_len other ≤ MOST_PLAN_BYTES }
     ensures { IfOk result (λ s. IsTwoSaid map.now one.items other.items (said_of s)) }
 {
-    if is_run(&one) || is_run(&other) {
+    if has_run(&one, &other) {
         return answer_pair(alloc, map, &one, &other);
     }
     answer_traces(alloc, map, one, other)
