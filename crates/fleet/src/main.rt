@@ -31,6 +31,7 @@ mod live;
 mod lock;
 mod map;
 mod piped;
+mod placed;
 mod recalling;
 mod recovering;
 mod sim;

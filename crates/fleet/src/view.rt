@@ -1,7 +1,10 @@
 //! The word `view`.
 
+ghost use Rattle.std.specs.Prelude.{◌≤◌, vec_len, IfOk};
+
 use crate::ends::{FileFault, MOST_MAP_BYTES, complain, file_bytes};
 use crate::inputs::{Inputs, PlanUse, only_trace, traces_in};
+use crate::placed::is_too_long;
 use fleet_lib::{
     MOST_TRACE_BYTES, Said, Shown, View, answer_log, answer_many, answer_two, answer_view, is_log,
     is_plan, tell,
@@ -34,13 +37,28 @@ fn answer_one<'a, R: Files + Alloc<A = Global>>(
     if is_log(&input) {
         return Ok(answer_log(rt.alloc(), map, &input)?);
     }
-    if is_plan(&input) {
+    if is_plan(&input) && !is_too_long(rt.alloc(), map, &input)? {
         if let Some(said) = answer_many(rt.alloc(), map, &input)? {
             return Ok(said);
         }
     }
     let inputs = only_trace(rt.alloc(), map, input, PlanUse::Shown)?;
     answer_inputs(rt, Shown::Page, map, inputs)
+}
+
+/// A plan, a log or a trace that is one of two runs.
+fn run_in<'a, R: Files + Alloc<A = Global>>(
+    rt: &R,
+    map: &[u8],
+    name: &'a str,
+) -> Result<Vec<u8>, FileFault<'a>>
+    ensures { IfOk result (λ input. vec_len input ≤ 1073741824) }
+{
+    let input = file_bytes(rt, name, MOST_TRACE_BYTES)?;
+    if is_plan(&input) && is_too_long(rt.alloc(), map, &input)? {
+        return Err(FileFault::Dense(name));
+    }
+    Ok(input)
 }
 
 /// The answer to two files whose page is asked for.
@@ -50,8 +68,8 @@ fn answer_both<'a, R: Files + Alloc<A = Global>>(
     first: &'a str,
     second: &'a str,
 ) -> Result<Said, FileFault<'a>> {
-    let one = file_bytes(rt, first, MOST_TRACE_BYTES)?;
-    let other = file_bytes(rt, second, MOST_TRACE_BYTES)?;
+    let one = run_in(rt, map, first)?;
+    let other = run_in(rt, map, second)?;
     Ok(answer_two(rt.alloc(), map, one, other)?)
 }
 
