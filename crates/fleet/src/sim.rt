@@ -1,5 +1,7 @@
 //! The word `sim`.
 
+ghost use Rattle.std.specs.Prelude.{◌≤◌, vec_len};
+
 use crate::chapters::keep_chapter;
 use crate::ends::{FileFault, complain};
 use crate::sim_texts::{SimTexts, sources, texts_of};
@@ -106,20 +108,25 @@ fn times_of(measured: Measured, timed: bool) -> Option<Times> {
     }
 }
 
-/// Plays a run, and ends it.
-fn played<R: Alloc<A = Global> + Clock>(
+/// Makes a run with these hooks: opens it, plays it, and ends it.
+fn hooked_run<R: Alloc<A = Global> + Clock>(
     rt: &R,
-    sim: Sim,
+    texts: &SimTexts,
     plan: &SimPlan,
-    robots: u32,
+    run: SimRun,
     timed: bool,
-) -> Result<(Played, Option<Times>), SimTrouble> {
-    let mut sim = sim;
+    hooks: Hooks,
+) -> Result<(Played, Option<Times>), SimTrouble>
+    // Of each call: only a call with a condition may hand on closures.
+    requires { 0 ≤ vec_len hooks.ties }
+{
+    let alloc = rt.alloc();
+    let mut sim = open_sim(alloc, &texts.map, sources(texts), run, hooks)?;
     let measured = play(rt, &mut sim, plan, timed);
-    let played = end_sim(rt.alloc(), sim, u64::from(plan.warm_up));
+    let played = end_sim(alloc, sim, u64::from(plan.warm_up));
     match measured {
         Ok(measured) => Ok((played?, times_of(measured, timed))),
-        Err(fault) => Err(trouble_of(robots, fault)),
+        Err(fault) => Err(trouble_of(run.robots, fault)),
     }
 }
 
@@ -131,11 +138,10 @@ fn plain_run<R: Alloc<A = Global> + Clock>(
     run: SimRun,
     timed: bool,
 ) -> Result<(Played, Option<Times>), SimTrouble> {
-    let alloc = rt.alloc();
     let (tie, arrival) = (TieHook::fixed([0; 4]), ArrivalHook::fixed(0));
-    let hooks = Hooks::alike(alloc, run.robots as usize, tie, arrival, Farewell::fixed(0))?;
-    let sim = open_sim(alloc, &texts.map, sources(texts), run, hooks)?;
-    played(rt, sim, plan, run.robots, timed)
+    let robots = run.robots as usize;
+    let hooks = Hooks::alike(rt.alloc(), robots, tie, arrival, Farewell::fixed(0))?;
+    hooked_run(rt, texts, plan, run, timed, hooks)
 }
 
 /// Makes a run whose ties are decided by random ranks.
@@ -155,8 +161,7 @@ fn random_run<R: Alloc<A = Global> + Clock>(
         let tie = TieHook::new(TieLaw::ANY, rank);
         hooks.push(tie, ArrivalHook::fixed(0), Farewell::fixed(0))?;
     }
-    let sim = open_sim(alloc, &texts.map, sources(texts), run, hooks)?;
-    played(rt, sim, plan, run.robots, timed)
+    hooked_run(rt, texts, plan, run, timed, hooks)
 }
 
 /// Makes a run.
