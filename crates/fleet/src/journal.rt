@@ -129,7 +129,9 @@ impl<R: Files<File = File> + Alloc<A = Global> + Copy + Drop, E: Write + Drop> F
     }
 
     /// Says why a journal could not be written.
-    fn say(&mut self, name: &str, why: &io::Error) {
+    fn say(&mut self, name: &str, why: &io::Error)
+        ensures { self.new.given ≡ self.old.given }
+    {
         self.trouble.note_said();
         let line = format!(in self.rt.alloc(); "fleet: file {name} cannot be written: {why}\n");
         if let Ok(line) = line {
