@@ -1,6 +1,6 @@
 /* What a frame costs: prints, for several maps and numbers of robots, how long calls take and how much memory a fleet has, as the
    rows of a table in docs/EMBEDDING.md; with EACH how long frames take in which no more first orders are made than that; with 0
-   and MS how long they take where all are made at once, and then each frame searches for so many milliseconds before the first
+   and MS how long they take where all are made at once, and then each frame searches for that many milliseconds before the first
    tick. Times are those of the processor. usage: frames [SIDE [ROBOTS [EACH [MS]]]] */
 #include "nashirudder.hpp"
 
@@ -117,7 +117,7 @@ static void spread(Run run, std::size_t robots, std::uint32_t each) {
     std::printf("%u first orders a frame: %zu frames, mean %.1f ms, most %.1f ms\n", each, took.size(), mean(took) / 1e3, *std::max_element(took.begin(), took.end()) / 1e3);
 }
 
-/* The frames that search, each for so many milliseconds, until no field is missing. */
+/* The frames that search, each for `most` milliseconds, until no field is missing. */
 static std::vector<double> searches(Run &run, std::uint32_t most) {
     std::vector<double> took;
     while (run.fleet.missing() > 0) {

@@ -16,7 +16,7 @@ pub next-step : (width : ℕ) (from to : List ℕ) (k f : ℕ) (old out grown : 
     → grown ≡ old ++ steps_below width from to (k + 1)
 next-step width from to k f old out grown out-is f-is grown-is = rw (grown-is, f-is, out-is, add-one k) (append_assoc old (steps_below width from to k) (step_signs width (slice_index from k) (slice_index to k)))
 
--- a list that is no longer than so many is all that is taken
+-- `take` with a number that is not below the length gives the whole list
 pub all-taken : {X : Type 0} (n : ℕ) (xs : List X) → length xs ≤ n → xs ≡ take n xs
 all-taken n xs few = sym (take_all n xs few)
 
